@@ -1,0 +1,5 @@
+pub mod Outcomes
+pub mod Paths
+pub mod Ends
+pub mod Limits
+pub mod Inputs

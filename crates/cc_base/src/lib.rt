@@ -1,0 +1,17 @@
+//! What the tool's layers speak of that knows no C: outcomes, paths, ends, bounds, inputs, tests and their texts.
+#![tactic(auto)]
+
+pub mod bounds;
+pub mod cells;
+pub mod ends;
+pub mod inputs;
+pub mod memory;
+pub mod outcomes;
+
+pub use bounds::Bounds;
+pub use cells::{CellTy, TyId};
+pub use ends::{End, FaultKind};
+pub use inputs::{Input, PathText, Test, Text};
+pub use memory::NoMemory;
+pub use outcomes::Outcome;
+pub use sqlite_items::{Boxed, Items};
