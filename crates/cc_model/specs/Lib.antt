@@ -4,3 +4,11 @@ pub mod Meaning
 pub mod Plain
 pub mod Canonical
 pub mod Runs
+pub mod Tested
+pub mod Listing
+pub mod Report
+pub mod Lexical
+pub mod Reads
+pub mod Words
+pub mod Resolve
+pub mod Source

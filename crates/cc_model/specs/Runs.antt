@@ -4,7 +4,6 @@ use Rattle.cc_base.specs.declared.outcomes.Outcome.{Outcome}
 use Rattle.cc_base.specs.declared.ends.End.{End}
 use Rattle.cc_base.specs.declared.ends.End.TheVariants.{Return}
 use Rattle.cc_base.specs.declared.inputs.Input.{Input}
-use Rattle.cc_base.specs.declared.inputs.Test.{Test}
 use Rattle.cc_base.specs.Limits.{Limits, base_of}
 use Rattle.cc_base.specs.Paths.{Path}
 use Rattle.cc_model.specs.Core.{Program, Cell, Func, Start, start_number, start_null}
@@ -65,9 +64,3 @@ end_at p b h = end_of (run_of p b h).result
 -- the input is one of the tested function's, within the bounds
 abbrev pub IsInput : Program → Limits → Input → Type 0
 IsInput p b h = IsCanonical p.layouts b (params_of p) h
-
--- the test's input is within the bounds, and its run takes the test's path to the test's end
-pub record Real (p : Program) (b : Limits) (t : Test) : Type 0 where
-  pub within : IsInput p b t.input
-  pub path : t.path ≡ path_at p b t.input
-  pub end : t.end ≡ end_at p b t.input

@@ -3,11 +3,13 @@
 
 pub mod checked;
 pub mod commands;
+pub mod terms;
 pub mod tokens;
 pub mod trees;
 
 pub use cc_base as base;
 pub use checked::{Checked, Layout, Sig, Site, SiteId, SiteKind, Target, Ty};
 pub use commands::{Command, ReplayWords, RunWords, Strategy, TraceWords};
+pub use terms::TermKind;
 pub use tokens::{Keyword, Kind, Punct, Token};
 pub use trees::{Expr, Func, Program, Stmt, StructDef};

@@ -1,0 +1,4 @@
+pub mod FaultLemmas
+pub mod PrefixLemmas
+pub mod HeldLemmas
+pub mod StreamLemmas

@@ -1,0 +1,10 @@
+pub mod Faults
+pub mod Prefix
+pub mod Told
+pub mod Held
+pub mod MemFilesState
+pub mod MemSinkState
+pub mod Endings
+pub mod Streams
+pub mod RealSink
+pub mod RealFiles

@@ -1,0 +1,110 @@
+// Files of the file system.
+ghost use Rattle.std.specs.Prelude.{◌≡◌, ◌≢◌, ◌↔◌, ◌⊎◌, ℕ, ◌^◌, ◌<◌, ◌≤◌, None, IfOk, IfErr, IfSome, IsErrOf, length, take, vec_len};
+ghost use Rattle.std.specs.IoError.{error_kind};
+ghost use Rattle.cc_outside.specs.Faults.{Rose};
+ghost use Rattle.cc_outside.specs.Endings.{EndsBy};
+
+use crate::loading::{Files, LoadFault};
+use std::alloc::Global;
+use std::io::{ErrorKind, Read};
+use std::{fs, io, rt};
+
+/// The files of the file system, by their paths.
+///
+/// It tells nothing of what they hold.
+#[derive(Drop)]
+pub struct RealFiles<R: rt::Files + Drop> {
+    runtime: R,
+    faults: u64,
+}
+
+impl<R: rt::Files + Drop> RealFiles<R> {
+    pub fn new(runtime: R) -> RealFiles<R> {
+        RealFiles { runtime, faults: 0 }
+    }
+}
+
+impl<R: rt::Files + Drop> Files for RealFiles<R> {
+    ghost use Rattle.cc_outside.specs.RealFiles.{faults_of};
+
+    ghost held = { λ _. None };
+
+    ghost faults = { faults_of };
+
+    fn load(&mut self, alloc: Global, name: &str, limit: usize) -> Result<Vec<u8>, LoadFault>
+        ensures within_limit { IfOk result (λ v. vec_len v ≤ limit) }
+        ensures failed { IsErrOf result LoadFault.Failed
+            → Rose (faults_of self.old) (faults_of self.new) }
+        ensures no_memory { IsErrOf result LoadFault.NoMemory
+            → Rose (faults_of self.old) (faults_of self.new) }
+        ensures never_falls { faults_of self.old ≤ faults_of self.new }
+        ensures bounded { faults_of self.new < 2 ^ 64 }
+    {
+        let faults = self.faults;
+        let answer = read_file(&self.runtime, alloc, name, limit);
+        if matches!(answer, Err(LoadFault::Failed | LoadFault::NoMemory)) {
+            self.faults = faults.saturating_add(1);
+        }
+        answer
+    }
+}
+
+fn read_file<R: rt::Files>(runtime: &R, alloc: Global, name: &str, limit: usize) -> Result<Vec<u8>, LoadFault>
+    ensures within_limit { IfOk result (λ v. vec_len v ≤ limit) }
+{
+    let file = fs::open(runtime, name).map_err(|e| open_fault(&e))?;
+    read_up_to(file, alloc, limit)
+}
+
+/// Why a file was not opened.
+fn open_fault(error: &io::Error) -> LoadFault
+    ensures missing { (result ≡ LoadFault.Missing) ↔ (error_kind error.now ≡ ErrorKind.NotFound) }
+    ensures no_memory { (result ≡ LoadFault.NoMemory) ↔ (error_kind error.now ≡ ErrorKind.OutOfMemory) }
+    ensures never_long { result ≢ LoadFault.TooLong }
+{
+    match error.kind() {
+        ErrorKind::NotFound => LoadFault::Missing,
+        _ => read_fault(error),
+    }
+}
+
+/// Why a file that is open was not read.
+fn read_fault(error: &io::Error) -> LoadFault
+    ensures no_memory { error_kind error.now ≡ ErrorKind.OutOfMemory → result ≡ LoadFault.NoMemory }
+    ensures failed { error_kind error.now ≢ ErrorKind.OutOfMemory → result ≡ LoadFault.Failed }
+    ensures cases { (result ≡ LoadFault.Failed) ⊎ (result ≡ LoadFault.NoMemory) }
+{
+    match error.kind() {
+        ErrorKind::OutOfMemory => LoadFault::NoMemory,
+        _ => LoadFault::Failed,
+    }
+}
+
+/// All that the reader has left, if that is at most `limit` bytes. It reads at most one byte more.
+fn read_up_to<R: Read + Drop>(reader: R, alloc: Global, limit: usize) -> Result<Vec<u8>, LoadFault>
+    ensures within_limit { IfOk result (λ v. vec_len v ≤ limit) }
+    ensures bytes { IfSome (R.remaining reader) (λ xs. IfOk result (λ v. v.items ≡ xs)) }
+    ensures too_long { IfSome (R.remaining reader)
+        (λ xs. limit < length xs → EndsBy LoadFault.TooLong result) }
+    ensures too_long_only { IfSome (R.remaining reader)
+        (λ xs. IsErrOf result LoadFault.TooLong → limit < length xs) }
+    ensures never_missing { ¬ IsErrOf result LoadFault.Missing }
+{
+    let bytes = read_first(reader, alloc, (limit as u64).saturating_add(1))?;
+    if bytes.len() > limit {
+        return Err(LoadFault::TooLong);
+    }
+    Ok(bytes)
+}
+
+/// The bytes that the reader has left, up to the first `most`. A read of nothing is their end.
+fn read_first<R: Read + Drop>(reader: R, alloc: Global, most: u64) -> Result<Vec<u8>, LoadFault>
+    ensures first { IfSome (R.remaining reader) (λ xs. IfOk result (λ v. v.items ≡ take most xs)) }
+    ensures faults { IfErr result (λ e. (e ≡ LoadFault.Failed) ⊎ (e ≡ LoadFault.NoMemory)) }
+{
+    let mut bytes = Vec::new(alloc);
+    match reader.take(most).read_to_end(&mut bytes) {
+        Ok(_) => Ok(bytes),
+        Err(e) => Err(read_fault(&e)),
+    }
+}

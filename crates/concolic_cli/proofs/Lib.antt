@@ -1,0 +1,2 @@
+mod SumRuns
+mod SumPrograms
