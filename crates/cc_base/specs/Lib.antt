@@ -3,3 +3,4 @@ pub mod Paths
 pub mod Ends
 pub mod Limits
 pub mod Inputs
+pub mod Forms

@@ -4,6 +4,7 @@
 pub mod bounds;
 pub mod cells;
 pub mod ends;
+pub mod forms;
 pub mod inputs;
 pub mod memory;
 pub mod outcomes;
@@ -11,6 +12,7 @@ pub mod outcomes;
 pub use bounds::Bounds;
 pub use cells::{CellTy, TyId};
 pub use ends::{End, FaultKind};
+pub use forms::Multiple;
 pub use inputs::{Input, PathText, Test, Text};
 pub use memory::NoMemory;
 pub use outcomes::Outcome;

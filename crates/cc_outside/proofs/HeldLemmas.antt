@@ -56,8 +56,6 @@ nothing_found p xs e =
     let past : length xs ≤ position_or_len p xs = grind (arith, nat_tests) in
     find_at p xs ∙ slice_get-past xs _ past
 
-
-
 -- a file put in place of the first of its name is the one of its name
 pub file_of-set : (held : Held) (i : ℕ) (file : NamedFile) → position (has_name file.name) held ≡ Some i → file_of file.name (set held i file) ≡ Some file.bytes
 file_of-set held i file e =

@@ -1,4 +1,5 @@
 pub mod FaultLemmas
-pub mod PrefixLemmas
 pub mod HeldLemmas
+pub mod PrefixLemmas
 pub mod StreamLemmas
+pub mod ToldLemmas

@@ -9,6 +9,8 @@ mod mem_sink;
 mod real_files;
 mod real_sink;
 mod stored_file;
+#[cfg(test)]
+mod tests;
 mod writing;
 
 pub use loading::{Files, LoadFault};

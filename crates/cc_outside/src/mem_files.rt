@@ -25,10 +25,10 @@ impl Model for MemFiles {
     ghost Value = { MemFilesState };
 
     ghost view = { λ s. record {
-        held = s.files.items;
-        loads = s.calls.made;
-        fails_at = s.calls.fails_at;
-        faults = s.calls.faults
+      held = s.files.items;
+      loads = s.calls.made;
+      fails_at = s.calls.fails_at;
+      faults = s.calls.faults;
     } };
 }
 

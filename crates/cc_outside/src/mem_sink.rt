@@ -23,11 +23,11 @@ impl Model for MemSink {
     ghost Value = { MemSinkState };
 
     ghost view = { λ s. record {
-        written = s.bytes.items;
-        writes = s.calls.made;
-        fails_at = s.calls.fails_at;
-        keep = s.keep;
-        faults = s.calls.faults
+      written = s.bytes.items;
+      writes = s.calls.made;
+      fails_at = s.calls.fails_at;
+      keep = s.keep;
+      faults = s.calls.faults;
     } };
 }
 
@@ -70,7 +70,7 @@ impl Sink for MemSink {
         ensures ok { OnOk result (self.new.written ≡ self.old.written ++ piece.now) }
         ensures kept { IsErrOf result SinkFault.Failed
             → (self.new.written ≡ self.old.written ++ take self.old.keep piece.now)
-                ⊎ (self.new.written ≡ self.old.written) }
+            ⊎ (self.new.written ≡ self.old.written) }
         ensures no_memory { IsErrOf result SinkFault.NoMemory
             → self.new.written ≡ self.old.written }
 

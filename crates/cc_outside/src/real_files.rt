@@ -19,7 +19,12 @@ pub struct RealFiles<R: rt::Files + Drop> {
 }
 
 impl<R: rt::Files + Drop> RealFiles<R> {
-    pub fn new(runtime: R) -> RealFiles<R> {
+    ghost use Rattle.cc_outside.specs.RealFiles.{faults_of};
+
+    /// The files that `runtime` reaches, with no fault so far.
+    pub fn new(runtime: R) -> RealFiles<R>
+        ensures no_faults { faults_of result ≡ 0 }
+    {
         RealFiles { runtime, faults: 0 }
     }
 }
@@ -49,7 +54,12 @@ impl<R: rt::Files + Drop> Files for RealFiles<R> {
     }
 }
 
-fn read_file<R: rt::Files>(runtime: &R, alloc: Global, name: &str, limit: usize) -> Result<Vec<u8>, LoadFault>
+fn read_file<R: rt::Files>(
+    runtime: &R,
+    alloc: Global,
+    name: &str,
+    limit: usize,
+) -> Result<Vec<u8>, LoadFault>
     ensures within_limit { IfOk result (λ v. vec_len v ≤ limit) }
 {
     let file = fs::open(runtime, name).map_err(|e| open_fault(&e))?;
@@ -106,5 +116,83 @@ fn read_first<R: Read + Drop>(reader: R, alloc: Global, most: u64) -> Result<Vec
     match reader.take(most).read_to_end(&mut bytes) {
         Ok(_) => Ok(bytes),
         Err(e) => Err(read_fault(&e)),
+    }
+}
+
+#[cfg(test)]
+mod tests {
+    use super::*;
+    use std::process;
+    use std::test::Fail;
+
+    // A reader that gives its bytes one by one, interrupted before each, and then fails.
+    #[derive(Drop)]
+    struct BreakingReader<'a> {
+        bytes: std::slice::Iter<'a, u8>,
+        is_interrupted: bool,
+        end: ErrorKind,
+    }
+
+    impl Read for BreakingReader<'_> {
+        fn read(&mut self, buf: &mut [u8]) -> io::Result<usize> {
+            self.is_interrupted = !self.is_interrupted;
+            if self.is_interrupted {
+                return Err(io::Error::from(ErrorKind::Interrupted));
+            }
+            if buf.is_empty() {
+                return Ok(0);
+            }
+            let Some(byte) = self.bytes.next() else {
+                return Err(io::Error::from(self.end));
+            };
+            buf[0] = *byte;
+            Ok(1)
+        }
+    }
+
+    fn reader_of(bytes: &[u8], end: ErrorKind) -> BreakingReader<'_> {
+        BreakingReader {
+            bytes: bytes.iter(),
+            is_interrupted: false,
+            end,
+        }
+    }
+
+    #[test]
+    fn fails_in_mid_stream(rt: HostRuntime) {
+        for (end, fault) in [
+            (ErrorKind::Other, LoadFault::Failed),
+            (ErrorKind::NotFound, LoadFault::Failed),
+            (ErrorKind::OutOfMemory, LoadFault::NoMemory),
+        ] {
+            let read = read_up_to(reader_of(b"abc", end), rt.alloc(), 3);
+            assert_eq!(rt; read.err(), Some(fault));
+        }
+        // The limit ends the reading before the fault comes.
+        let read = read_up_to(reader_of(b"abc", ErrorKind::Other), rt.alloc(), 2);
+        assert_eq!(rt; read.err(), Some(LoadFault::TooLong));
+    }
+
+    #[test]
+    fn loads_files(rt: HostRuntime) -> Result<(), Fail> {
+        let id = process::id(rt.process());
+        let path = format!(in rt.alloc(); "/tmp/cc_outside-{id}")?;
+        fs::write(&rt, path.as_str(), "abc")?;
+        let mut files = RealFiles::new(rt);
+        let bytes = files.load(rt.alloc(), path.as_str(), 3)?;
+        assert_eq!(rt; bytes.as_slice(), b"abc".as_slice());
+        let whole = files.load(rt.alloc(), path.as_str(), usize::MAX)?;
+        assert_eq!(rt; whole.as_slice(), b"abc".as_slice());
+        let long = files.load(rt.alloc(), path.as_str(), 2);
+        assert_eq!(rt; long.err(), Some(LoadFault::TooLong));
+        fs::remove_file(&rt, path.as_str())?;
+        let missing = files.load(rt.alloc(), path.as_str(), 3);
+        assert_eq!(rt; missing.err(), Some(LoadFault::Missing));
+        assert_eq!(rt; files.faults, 0);
+        // A directory is opened and can't be read.
+        let failed = files.load(rt.alloc(), "/tmp", 3);
+        assert_eq!(rt; failed.err(), Some(LoadFault::Failed));
+        assert_eq!(rt; files.faults, 1);
+        Ok(())
     }
 }

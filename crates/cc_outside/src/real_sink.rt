@@ -17,7 +17,13 @@ pub struct RealSink<W: Write + Drop> {
 }
 
 impl<W: Write + Drop> RealSink<W> {
-    pub fn new(writer: W) -> RealSink<W> {
+    ghost use Rattle.cc_outside.specs.RealSink.{writer_of, faults_of};
+
+    /// A sink that writes to `writer`, with no fault so far.
+    pub fn new(writer: W) -> RealSink<W>
+        ensures writer { writer_of result ≡ writer }
+        ensures no_faults { faults_of result ≡ 0 }
+    {
         RealSink { writer, faults: 0 }
     }
 }
@@ -78,5 +84,94 @@ fn write_some<W: Write>(writer: &mut W, rest: &[u8]) -> Result<usize, SinkFault>
         Ok(n) => Ok(n),
         Err(e) if e.kind() == ErrorKind::Interrupted => Ok(0),
         Err(_) => Err(SinkFault::Failed),
+    }
+}
+
+#[cfg(test)]
+mod tests {
+    use super::*;
+    use std::alloc::Global;
+    use std::io;
+    use std::test::Fail;
+
+    #[derive(Clone, Copy)]
+    enum Step {
+        Takes(usize),
+        Interrupted,
+        Broken,
+    }
+
+    // A stream that does as it is told, and takes all once it is told no more.
+    #[derive(Drop)]
+    struct ToldStream<'a> {
+        steps: std::slice::Iter<'a, Step>,
+        taken: Vec<u8>,
+        flush_fails: bool,
+    }
+
+    impl Write for ToldStream<'_> {
+        fn write(&mut self, buf: &[u8]) -> io::Result<usize> {
+            let most = match self.steps.next().copied() {
+                Some(Step::Takes(most)) => most.min(buf.len()),
+                Some(Step::Interrupted) => return Err(io::Error::from(ErrorKind::Interrupted)),
+                Some(Step::Broken) => return Err(io::Error::from(ErrorKind::BrokenPipe)),
+                None => buf.len(),
+            };
+            self.taken.extend_from_slice(&buf[..most])?;
+            Ok(most)
+        }
+
+        fn flush(&mut self) -> io::Result<()> {
+            if self.flush_fails {
+                return Err(io::Error::from(ErrorKind::BrokenPipe));
+            }
+            Ok(())
+        }
+    }
+
+    fn stream_of<'a>(alloc: Global, steps: &'a [Step], flush_fails: bool) -> ToldStream<'a> {
+        ToldStream {
+            steps: steps.iter(),
+            taken: Vec::new(alloc),
+            flush_fails,
+        }
+    }
+
+    #[test]
+    fn writes_to_memory(rt: HostRuntime) -> Result<(), Fail> {
+        let mut sink = RealSink::new(Vec::new(rt.alloc()));
+        sink.write(b"ab")?;
+        sink.write(b"")?;
+        sink.write(b"c")?;
+        assert_eq!(rt; sink.writer.as_slice(), b"abc".as_slice());
+        assert_eq!(rt; sink.faults, 0);
+        RealSink::new(rt.stdout()).write(b"")?;
+        Ok(())
+    }
+
+    #[test]
+    fn fails_in_mid_stream(rt: HostRuntime) -> Result<(), Fail> {
+        let steps = [
+            Step::Takes(1),
+            Step::Interrupted,
+            Step::Takes(1),
+            Step::Broken,
+            Step::Takes(2),
+            Step::Takes(0),
+        ];
+        let mut sink = RealSink::new(stream_of(rt.alloc(), &steps, false));
+        assert_eq!(rt; sink.write(b"abc"), Err(SinkFault::Failed));
+        assert_eq!(rt; sink.write(b"def"), Err(SinkFault::Failed));
+        assert_eq!(rt; sink.write(b"ghi"), Ok(()));
+        assert_eq!(rt; sink.writer.taken.as_slice(), b"abdeghi".as_slice());
+        assert_eq!(rt; sink.faults, 2);
+        Ok(())
+    }
+
+    #[test]
+    fn fails_at_a_flush(rt: HostRuntime) {
+        let mut sink = RealSink::new(stream_of(rt.alloc(), &[], true));
+        assert_eq!(rt; sink.write(b"abc"), Err(SinkFault::Failed));
+        assert_eq!(rt; sink.faults, 1);
     }
 }

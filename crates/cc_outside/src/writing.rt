@@ -1,8 +1,7 @@
 // Writing output, piece by piece.
-ghost use Rattle.std.specs.Prelude.{◌≡◌, ℕ, ◌^◌, ◌<◌, ◌≤◌, List, Option, None, IsOk, is_some, OnOk, IsErrOf};
+ghost use Rattle.std.specs.Prelude.{◌≡◌, ℕ, ◌^◌, ◌<◌, ◌≤◌, List, Option, None, IsOk, is_some, OnOk, OnErr, IsErrOf};
 ghost use Rattle.cc_outside.specs.Faults.{Rose};
-ghost use Rattle.cc_outside.specs.Prefix.{IsFirstPart};
-ghost use Rattle.cc_outside.specs.Told.{appended};
+ghost use Rattle.cc_outside.specs.Told.{appended, WritesPart};
 
 use thiserror::Error;
 
@@ -35,9 +34,8 @@ pub trait Sink {
         ensures ok { OnOk result (written self.new ≡ appended (written self.old) piece.now) }
         ensures failed_rose { IsErrOf result SinkFault.Failed
             → Rose (faults self.old) (faults self.new) }
-        ensures failed_part { IsErrOf result SinkFault.Failed
-            → (part : List ℕ) × IsFirstPart part piece.now
-                × (written self.new ≡ appended (written self.old) part) }
+        ensures failed_part { OnErr result
+            (WritesPart (written self.old) (written self.new) piece.now) }
         ensures no_memory { IsErrOf result SinkFault.NoMemory
             → written self.new ≡ written self.old };
 }

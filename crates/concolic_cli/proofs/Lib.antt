@@ -1,2 +1,4 @@
+pub mod Numerals
+pub mod Forms
 mod SumRuns
 mod SumPrograms

@@ -1,1 +1,4 @@
+pub mod Plain
 pub mod Sums
+pub mod Refusals
+pub mod Session

@@ -1,0 +1,75 @@
+-- What the tool says when it refuses, and its status then. The texts and the statuses are this project's own.
+use Rattle.std.specs.Prelude.{ℕ, ◌≡◌, ◌⊎◌, Bool, true, false, IsTrue, List, ◌++◌, Option, codes}
+use Rattle.std.specs.Fmt.{decimal}
+use Rattle.cc_model.specs.Report.{newline}
+use Rattle.cc_model.specs.Source.{source_text, not_yet_text, no_entry_text}
+use Rattle.cc_outside.specs.Faults.{Rose}
+use Rattle.cc_outside.specs.Told.{appended, WritesPart}
+use Rattle.concolic_cli.specs.declared.refusal.Wrong.{Wrong}
+use Rattle.concolic_cli.specs.declared.refusal.Wrong.TheVariants.{BadByte, BadNumber, OpenComment, BadDirective}
+use Rattle.concolic_cli.specs.declared.refusal.Refusal.{Refusal}
+use Rattle.concolic_cli.specs.declared.refusal.Refusal.TheVariants.{BadWord, Missing, TooLong, FileFailed, Source, NotYet, NoEntry, OutputFailed, NoMemory}
+
+abbrev pub what_text : Wrong → List ℕ
+what_text BadByte = codes "bad byte"
+what_text BadNumber = codes "bad number"
+what_text OpenComment = codes "open comment"
+what_text BadDirective = codes "bad directive"
+
+-- file NAME: WHAT
+abbrev pub file_text : List ℕ → List ℕ → List ℕ
+file_text file what = codes "file " ++ file ++ codes ": " ++ what
+
+abbrev pub bad_word_text : ℕ → List ℕ
+bad_word_text n = codes "bad word " ++ decimal n
+
+-- the text of a refusal, for the words FILE and ENTRY
+abbrev pub refusal_text : List ℕ → List ℕ → Refusal → List ℕ
+refusal_text file entry (BadWord n) = bad_word_text n
+refusal_text file entry Missing = file_text file (codes "missing")
+refusal_text file entry TooLong = file_text file (codes "too long")
+refusal_text file entry FileFailed = file_text file (codes "failed")
+refusal_text file entry (Source line wrong) = source_text line (what_text wrong)
+refusal_text file entry NotYet = not_yet_text
+refusal_text file entry NoEntry = no_entry_text entry
+refusal_text file entry OutputFailed = codes "output failed"
+refusal_text file entry NoMemory = codes "no memory"
+
+-- a text is said with a newline behind it
+abbrev pub refusal_line : List ℕ → List ℕ → Refusal → List ℕ
+refusal_line file entry e = refusal_text file entry e ++ newline
+
+-- the status of a refusal
+abbrev pub status_of : Refusal → ℕ
+status_of (BadWord n) = 2
+status_of Missing = 4
+status_of TooLong = 4
+status_of FileFailed = 4
+status_of (Source line wrong) = 3
+status_of NotYet = 3
+status_of NoEntry = 3
+status_of OutputFailed = 5
+status_of NoMemory = 7
+
+-- a text that holds the name of a file or of a function takes memory, and so does a source's
+abbrev pub wants_memory : Refusal → Bool
+wants_memory (BadWord n) = false
+wants_memory Missing = true
+wants_memory TooLong = true
+wants_memory FileFailed = true
+wants_memory (Source line wrong) = true
+wants_memory NotYet = false
+wants_memory NoEntry = true
+wants_memory OutputFailed = false
+wants_memory NoMemory = false
+
+-- the line stands in the error sink: whole where the sink took it, a first part of it where it failed, and nothing where
+-- the sink wanted memory
+abbrev pub Says : (old new : Option (List ℕ)) → (faults_old faults_new : ℕ) → List ℕ → Type 0
+Says old new faults_old faults_new line = (new ≡ appended old line) ⊎ (WritesPart old new line × Rose faults_old faults_new) ⊎ (new ≡ old)
+
+-- a refusal is answered by its status and its line; where the line's memory is wanting, as want of memory
+abbrev pub IsAnswered : (old new : Option (List ℕ)) → (faults_old faults_new : ℕ) → (file entry : List ℕ) → Refusal → ℕ → Type 0
+IsAnswered old new faults_old faults_new file entry e status =
+    ((status ≡ status_of e) × Says old new faults_old faults_new (refusal_line file entry e))
+    ⊎ (IsTrue (wants_memory e) × (status ≡ 7) × Says old new faults_old faults_new (refusal_line file entry NoMemory))

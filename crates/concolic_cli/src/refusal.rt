@@ -1,0 +1,46 @@
+//! Why the tool refuses, and what it says then.
+
+ghost use Rattle.std.specs.Prelude.{◌≡◌, ◌++◌, ◌^◌, ◌<◌, ◌≤◌, IfOk, codes};
+
+
+use arrayvec::ArrayString;
+use cc_model::base::NoMemory;
+use cc_outside::Sink;
+use itoa::Buffer;
+use std::alloc::Global;
+
+/// What is wrong with the bytes of a source.
+#[derive(Clone, Copy, Debug, PartialEq, Eq)]
+pub enum Wrong {
+    /// A byte that begins no token.
+    BadByte,
+    /// A number that is none of C's decimal `int`s.
+    BadNumber,
+    /// A comment that isn't closed.
+    OpenComment,
+    /// A line of the preprocessor that is no `#include`.
+    BadDirective,
+}
+
+/// Why a call is refused.
+#[derive(Clone, Copy, Debug, PartialEq, Eq)]
+pub enum Refusal {
+    /// The number of the bad word, from 1.
+    BadWord(u32),
+    /// There is no such file.
+    Missing,
+    /// The file has more than 1,048,576 bytes.
+    TooLong,
+    /// The file could not be read.
+    FileFailed,
+    /// The line of the source, from 1, and what is wrong there.
+    Source(u32, Wrong),
+    /// The source is none of the programs that are accepted so far.
+    NotYet,
+    /// No function with a body has the entry's name.
+    NoEntry,
+    /// The output could not be written.
+    OutputFailed,
+    /// Want of memory.
+    NoMemory,
+}
