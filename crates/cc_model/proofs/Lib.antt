@@ -1,1 +1,4 @@
+mod Compute
+mod Computed
 pub mod Resolved
+mod Rows

@@ -1,11 +1,11 @@
 -- What each form of the source resolves to, by what its parts resolve to.
-use Rattle.std.proofs.Common.{◌≡◌, ℕ, ℤ, Bool, true, false, List, [], ◌∷◌, map, Option, Some, None, refl, sym, ap, ◌∙◌}
-use Rattle.std.specs.Option.{option_map}
+use Rattle.std.proofs.Common.{◌≡◌, ℕ, ℤ, false, List, [], ◌∷◌, map, Option, Some, sym, ap, ◌∙◌}
 use Rattle.cc_model.specs.declared.trees.Expr.{Expr}
 use Rattle.cc_model.specs.declared.trees.Expr.TheVariants as expr
 use Rattle.cc_model.specs.declared.trees.Expr.TheOpen as level
 use Rattle.cc_model.specs.declared.trees.Expr.TheFolds.{fold-roll-Expr}
 use Rattle.cc_model.specs.declared.trees.TypeName.{TypeName}
+use Rattle.cc_model.specs.declared.trees.ResultType.{ResultType}
 use Rattle.cc_model.specs.declared.trees.Simple.{Simple}
 use Rattle.cc_model.specs.declared.trees.Head.{Head}
 use Rattle.cc_model.specs.declared.trees.Decl.{Decl}
@@ -17,7 +17,7 @@ use Rattle.cc_model.specs.declared.trees.Part.TheOpen as levels
 use Rattle.cc_model.specs.declared.trees.Part.TheFolds.{fold-roll-Part, fold-roll-Stmt}
 use Rattle.cc_model.specs.Core as core
 use Rattle.cc_model.specs.Core.{Stmt}
-use Rattle.cc_model.specs.Resolve.{Facts, Read, Piece, declares, does, by_value, by_truth, by_place, vals_of, number_or_null, function_named, offset_named, variable_named, expr_level, resolve, value_of, truth_of, place_of, simple_of, declarators_of, head_simple, head_declarators, part_level, stmt_level, stmt_of, piece_of, body_of}
+use Rattle.cc_model.specs.Resolve.{Facts, Read, Piece, declares, does, by_value, by_truth, by_place, vals_of, number_or_null, function_named, offset_named, variable_named, expr_level, resolve, value_of, truth_of, place_of, simple_of, declarators_of, value_if, truth_if, simple_if, head_simple, head_declarators, part_level, stmt_level, stmt_of, piece_of, parts_of, body_of, func_of}
 
 pub resolve_or : (facts : Facts) (f t : ℕ) (a b : Expr) → resolve facts (expr.Or f t a b) ≡ by_truth (core.either (truth_of facts a) (truth_of facts b))
 resolve_or facts f t a b = ap (resolve facts) (sym (expr.rolls-Or f t a b)) ∙ fold-roll-Expr Read (expr_level facts) (level.Or f t a b)
@@ -112,10 +112,10 @@ stmt_while facts w c body = ap (stmt_of facts) (sym (stmt.rolls-While w c body))
 pub stmt_do : (facts : Facts) (w : ℕ) (body : source.Stmt) (c : Expr) → stmt_of facts (stmt.Do w body c) ≡ core.repeat (stmt_of facts body) (truth_of facts c)
 stmt_do facts w body c = ap (stmt_of facts) (sym (stmt.rolls-Do w body c)) ∙ fold-roll-Stmt Piece Stmt (part_level facts) (stmt_level facts) (levels.Do w body c)
 
-pub stmt_for : (facts : Facts) (w : ℕ) (h : Head) (c : Option Expr) (next : Option Simple) (body : source.Stmt) → stmt_of facts (stmt.For w h c next body) ≡ core.loop_for (head_simple facts h) (head_declarators facts h) (option_map (truth_of facts) c) (option_map (simple_of facts) next) (stmt_of facts body)
+pub stmt_for : (facts : Facts) (w : ℕ) (h : Head) (c : Option Expr) (next : Option Simple) (body : source.Stmt) → stmt_of facts (stmt.For w h c next body) ≡ core.loop_for (head_simple facts h) (head_declarators facts h) (truth_if facts c) (simple_if facts next) (stmt_of facts body)
 stmt_for facts w h c next body = ap (stmt_of facts) (sym (stmt.rolls-For w h c next body)) ∙ fold-roll-Stmt Piece Stmt (part_level facts) (stmt_level facts) (levels.For w h c next body)
 
-pub stmt_return : (facts : Facts) (w : ℕ) (e : Option Expr) → stmt_of facts (stmt.Return w e) ≡ core.return (option_map (value_of facts) e)
+pub stmt_return : (facts : Facts) (w : ℕ) (e : Option Expr) → stmt_of facts (stmt.Return w e) ≡ core.return (value_if facts e)
 stmt_return facts w e = ap (stmt_of facts) (sym (stmt.rolls-Return w e)) ∙ fold-roll-Stmt Piece Stmt (part_level facts) (stmt_level facts) (levels.Return w e)
 
 pub stmt_break : (facts : Facts) (w : ℕ) → stmt_of facts (stmt.Break w) ≡ core.break
@@ -132,3 +132,17 @@ piece_decl facts d = ap (piece_of facts) (sym (part.rolls-Decl d)) ∙ fold-roll
 
 pub piece_stmt : (facts : Facts) (s : source.Stmt) → piece_of facts (part.Stmt s) ≡ does (stmt_of facts s)
 piece_stmt facts s = ap (piece_of facts) (sym (part.rolls-Stmt s)) ∙ fold-roll-Part Piece Stmt (part_level facts) (stmt_level facts) (levels.Stmt s)
+
+-- a number that isn't NULL is itself
+pub value_number : (facts : Facts) (f t : ℕ) (z : ℤ) → facts.is_null t ≡ false → value_of facts (expr.Number f t z) ≡ core.number z
+value_number facts f t z plain = ap (λ r. r.value) (resolve_number facts f t z) ∙ ap (λ b. number_or_null b z) plain
+
+pub value_sum : (facts : Facts) (f t : ℕ) (a b : Expr) → value_of facts (expr.Sum f t a b) ≡ core.arith t core.add (value_of facts a) (value_of facts b)
+value_sum facts f t a b = ap (λ r. r.value) (resolve_sum facts f t a b)
+
+pub value_difference : (facts : Facts) (f t : ℕ) (a b : Expr) → value_of facts (expr.Difference f t a b) ≡ core.arith t core.sub (value_of facts a) (value_of facts b)
+value_difference facts f t a b = ap (λ r. r.value) (resolve_difference facts f t a b)
+
+-- a function without parameters that gives a value
+pub func_returning : (facts : Facts) (r : ResultType) (n w : ℕ) (e : Expr) → func_of facts (record { result = r; name = n; params = []; body = part.Stmt (stmt.Return w (Some e)) ∷ [] }) ≡ record { params = []; result = facts.results n; body = core.then (core.return (Some (value_of facts e))) core.finish }
+func_returning facts r n w e = ap (λ p. record { params = []; result = facts.results n; body = parts_of (p ∷ []) }) (piece_stmt facts (stmt.Return w (Some e)) ∙ ap does (stmt_return facts w (Some e)))

@@ -1,6 +1,7 @@
 -- The tokens of a source: what stands at the front of its rest, one piece behind the other (C11 5.1.1.2 and 6.4).
-use Rattle.std.specs.Prelude.{◌≡◌, ℕ, zero, suc, ◌+◌, ◌*◌, ◌-◌, pos, Bool, true, false, not, ◌&&◌, ◌||◌, List, [], ◌∷◌, ◌++◌, length, take, drop, Option, Some, None, unwrap_or, option_map, Result, Ok, Err, nat_eq, nat_lt, nat_le, ◌==◌, if◌then◌else◌, slice_index, slice_range, codes, fold, count_by}
-use Rattle.std.specs.List.{starts_with, prefix_len, suffix_len, position_or_len, take_while, before_first, after_first, after_last, list_all}
+use Rattle.std.specs.Prelude.{ℕ, zero, suc, ◌+◌, ◌*◌, ◌-◌, pos, Bool, not, ◌&&◌, ◌||◌, List, [], ◌∷◌, ◌++◌, length, take, drop, Option, Some, None, unwrap_or, option_map, Result, Ok, Err, nat_eq, nat_lt, nat_le, ◌==◌, if◌then◌else◌, slice_index, slice_range, codes, fold, count_by}
+use Rattle.std.specs.List.{starts_with, prefix_len, suffix_len, position_or_len, take_while, before_first, after_first, after_last, list_all, find}
+use Rattle.std.specs.Option.{ok_or}
 use Rattle.std.specs.Str.{bytes_eq}
 use Rattle.cc_model.specs.declared.tokens.Token.{Token}
 use Rattle.cc_model.specs.declared.tokens.Kind.{Kind}
@@ -49,7 +50,7 @@ col_at source at = 1 + suffix_len (λ b. not (is_newline b)) (take at source)
 unfoldable pub is_first_on_line : List ℕ → ℕ → Bool
 is_first_on_line source at = list_all is_blank (after_last is_newline (take at source))
 
--- a token's text: the source from its start to its end
+-- a token's text: the source from its start to its end (this project's own)
 unfoldable pub text_of : List ℕ → Token → List ℕ
 text_of source t = slice_range source t.start t.«end»
 
@@ -57,7 +58,8 @@ text_of source t = slice_range source t.start t.«end»
 unfoldable pub begins : List ℕ → List ℕ → Bool
 begins bytes text = starts_with nat_eq bytes text
 
--- the words that are no names: those that the grammar uses, and the other keywords of C11 (6.4.1)
+-- The words that are no names: those that the grammar uses, and the other keywords of C11 (6.4.1). NULL and the calls among them are
+-- words too (this project's own).
 unfoldable pub words : List (List ℕ × Keyword)
 words =
     (codes "int", key.Int) ∷ (codes "struct", key.Struct) ∷ (codes "typedef", key.Typedef) ∷ (codes "void", key.Void)
@@ -77,8 +79,7 @@ words =
 
 -- what a table has at a text
 unfoldable pub entry : {A : Type 0} → List (List ℕ × A) → List ℕ → Option A
-entry [] text = None
-entry (e ∷ table) text = if bytes_eq text e.0 then Some e.1 else entry table text
+entry table text = option_map (λ e. e.1) (find (λ e. bytes_eq text e.0) table)
 
 -- the signs (6.4.6)
 unfoldable pub signs : List (List ℕ × Punct)
@@ -112,6 +113,7 @@ pub record Piece : Type 0 where
 unfoldable pub gap : ℕ → Piece
 gap n = record { kind = None; len = n }
 
+-- a token
 unfoldable pub lexeme : Kind → ℕ → Piece
 lexeme k n = record { kind = Some k; len = n }
 
@@ -123,9 +125,13 @@ word_of text = lexeme (unwrap_or (option_map kind.Key (entry words text)) kind.N
 unfoldable pub value_of : List ℕ → ℕ
 value_of digits = fold (λ value digit. 10 * value + (digit - 48)) 0 digits
 
--- 0, or digits that begin with no 0 (octal and suffixes are left out: this project's own), of a value that an int has
+-- 0, or digits that begin with no 0 (octal and suffixes are left out: this project's own)
+unfoldable pub is_decimal : List ℕ → Bool
+is_decimal text = list_all is_digit text && (bytes_eq text (codes "0") || not (begins text (codes "0")))
+
+-- a decimal of a value that an int has
 unfoldable pub is_number : List ℕ → Bool
-is_number text = list_all is_digit text && (bytes_eq text (codes "0") || not (begins text (codes "0"))) && nat_le (value_of text) 2147483647
+is_number text = is_decimal text && nat_le (value_of text) 2147483647
 
 -- the run of name bytes that begins with a digit is a number, or a fault (6.4.8)
 unfoldable pub number_of : ℕ → List ℕ → Result Piece LexicalFault
@@ -138,17 +144,17 @@ before_close (b ∷ bytes) = if begins (b ∷ bytes) (codes "*/") then Some 0 el
 
 -- a comment ends with the first */ behind its /* (6.4.9)
 unfoldable pub comment_of : ℕ → List ℕ → Result Piece LexicalFault
-comment_of at bytes = elim (before_close (drop 2 bytes)) [ None ↦ Err (open_comment at) | Some n ↦ Ok (gap (2 + n + 2)) ]
+comment_of at bytes = ok_or (option_map (λ n. gap (2 + n + 2)) (before_close (drop 2 bytes))) (open_comment at)
 
 -- the bytes without the blanks at their front
 unfoldable pub skip_blanks : List ℕ → List ℕ
 skip_blanks bytes = drop (prefix_len is_blank bytes) bytes
 
--- the mark stands in the bytes, and behind the first one only blanks
+-- the mark stands in the bytes, and behind the first one only blanks (this project's own)
 unfoldable pub closes : ℕ → List ℕ → Bool
 closes mark bytes = nat_lt (position_or_len (λ b. b == mark) bytes) (length bytes) && list_all is_blank (after_first (λ b. b == mark) bytes)
 
--- a header's name in < and >, or in two quotes, and blanks (6.4.7)
+-- a header's name in < and >, or in two quotes, and blanks (6.4.7); 62 is >, 34 is "
 unfoldable pub is_header : List ℕ → Bool
 is_header bytes = if begins bytes (codes "<") then closes 62 (drop 1 bytes) else (begins bytes (codes "\"") && closes 34 (drop 1 bytes))
 
@@ -164,10 +170,12 @@ directive_of at line = if is_include line then Ok (gap (length line)) else Err (
 unfoldable pub line_of : List ℕ → List ℕ
 line_of bytes = before_first is_newline bytes
 
+-- the longest sign, or a byte that begins no token
 unfoldable pub sign_of : ℕ → List ℕ → Result Piece LexicalFault
-sign_of at bytes = elim (longest signs bytes) [ None ↦ Err (bad_byte at) | Some s ↦ Ok (lexeme (kind.Punct s.1) (length s.0)) ]
+sign_of at bytes = ok_or (option_map (λ s. lexeme (kind.Punct s.1) (length s.0)) (longest signs bytes)) (bad_byte at)
 
--- What stands at the front of bytes, which go from the offset at on; first says that there are only blanks before them on their line.
+-- What stands at the front of bytes, which go from the offset at on: blanks, a directive (35 is #), a number, a name or word, a comment or
+-- a sign (6.4). first says that there are only blanks before them on their line.
 unfoldable pub piece_of : Bool → ℕ → List ℕ → Result Piece LexicalFault
 piece_of first at bytes =
     let b = slice_index bytes 0 in
@@ -179,15 +187,18 @@ piece_of first at bytes =
     if begins bytes (codes "/*") then comment_of at bytes else
     sign_of at bytes)))))
 
+-- what stands at an offset of a source
 unfoldable pub piece_at : List ℕ → ℕ → Result Piece LexicalFault
 piece_at source at = piece_of (is_first_on_line source at) at (drop at source)
 
 -- the token of a piece that begins at an offset, if it has one
 unfoldable pub token_at : List ℕ → ℕ → Piece → List Token
 token_at source at piece = elim piece.kind [
-    None ↦ []
-  | Some k ↦ record { kind = k; start = at; «end» = at + piece.len; line = line_at source at; col = col_at source at } ∷ [] ]
+  | None ↦ []
+  | Some k ↦ record { kind = k; start = at; «end» = at + piece.len; line = line_at source at; col = col_at source at } ∷ []
+]
 
+-- one reading behind the other, up to the first fault
 infixl 10 ◌>>=◌
 unfoldable pub ◌>>=◌ : {A B : Type 0} → Result A LexicalFault → (A → Result B LexicalFault) → Result B LexicalFault
 (Ok x) >>= f = f x

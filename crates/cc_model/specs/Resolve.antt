@@ -1,9 +1,7 @@
--- The source tree with its names, types and sites resolved: its core tree.
--- Which place, event and step a form of the source has is C's (ISO/IEC 9899:2011, 6.5 to 6.9) where C says it; the sites
--- are this project's own: an operator's site stands at its token, and the site of a truth that is no comparison at the
--- first token of the expression.
+-- The source tree with its names, types and sites resolved: its core tree, one node for each node of the source tree.
+-- What each form computes is C's (ISO/IEC 9899:2011, 6.5 to 6.9). The sites are this project's own: that of an operator
+-- stands at its token, that of a truth which is no comparison at the first token of its expression.
 use Rattle.std.specs.Prelude.{ℕ, ℤ, Bool, true, false, List, [], ◌∷◌, map, Option, Some, None}
-use Rattle.std.specs.Option.{option_map}
 use Rattle.cc_model.specs.declared.checked.Target.{Target}
 use Rattle.cc_model.specs.declared.checked.Target.TheVariants as target
 use Rattle.cc_model.specs.declared.trees.Expr.{Expr}
@@ -57,23 +55,23 @@ pub data Piece : Type 0 where
   declares : (ds : List Declarator) → Piece
   does : (s : Stmt) → Piece
 
--- what stands where a program that is well typed has a place
+-- of an expression that is no place; a well typed program doesn't use it
 abbrev pub no_place : Loc
 no_place = core.global 0
 
--- a value that is no comparison: its truth is tested, at the expression's first token
+-- an expression whose truth is that its value isn't 0 or NULL (6.8.4.1): tested at the expression's first token
 abbrev pub by_value : ℕ → Val → Read
 by_value first v = record { value = v; truth = core.test first v; place = no_place }
 
--- a comparison, `!`, `&&` or `||`: its value is 1 or 0 by its truth
+-- a comparison, `!`, `&&` or `||`: its value is 1 or 0 by its truth (6.5.3.3, 6.5.8, 6.5.9, 6.5.13, 6.5.14)
 abbrev pub by_truth : Cond → Read
 by_truth c = record { value = core.truth c; truth = c; place = no_place }
 
--- a place: it is located, then read
+-- a place: its value is read from it (6.3.2.1)
 abbrev pub by_place : ℕ → Loc → Read
 by_place first l = record { value = core.read l; truth = core.test first (core.read l); place = l }
 
--- arguments, from left to right
+-- arguments, from left to right (the order is this project's own)
 abbrev pub vals_of : List Read → Vals
 vals_of [] = core.done
 vals_of (a ∷ l) = core.more a.value (vals_of l)
@@ -98,20 +96,20 @@ abbrev pub slot_named : Option Target → ℕ
 slot_named (Some (target.Local n)) = n
 slot_named _ = 0
 
--- a parameter has one cell
+-- the cell of a parameter: it is a number or a pointer
 abbrev pub first_cell : List Cell → Cell
 first_cell [] = int_cell
 first_cell (c ∷ cs) = c
 
--- the parts of a block, in order
-abbrev mutual
-  pub declare_all : List Declarator → Parts → Parts
-  declare_all [] rest = rest
-  declare_all (d ∷ ds) rest = core.declare d (declare_all ds rest)
+-- declarators, in order, and then the rest
+abbrev pub declared_before : List Declarator → Parts → Parts
+declared_before [] rest = rest
+declared_before (d ∷ ds) rest = core.declare d (declared_before ds rest)
 
+-- the parts of a block, in order
 abbrev pub parts_of : List Piece → Parts
 parts_of [] = core.finish
-parts_of (declares ds ∷ l) = declare_all ds (parts_of l)
+parts_of (declares ds ∷ l) = declared_before ds (parts_of l)
 parts_of (does s ∷ l) = core.then s (parts_of l)
 
 module _ (facts : Facts) where
@@ -162,7 +160,7 @@ module _ (facts : Facts) where
   abbrev pub place_of : Expr → Loc
   place_of e = (resolve e).place
 
-  -- ---- simple statements; `t` is the operator's or the word's token
+  -- ---- simple statements (6.5.16, 6.5.3.1, 6.5.2.2); `t` is the operator's or the word's token
 
   abbrev pub simple_of : source_simple.Simple → Simple
   simple_of (simple.Assign t l e) = core.assign (place_of l) (value_of e)
@@ -181,24 +179,40 @@ module _ (facts : Facts) where
   simple_of (simple.Abort t) = core.abort t
   simple_of (simple.CrestInt t l) = core.take (place_of l)
 
-  -- ---- declarations
+  -- ---- declarations (6.7.6, 6.7.9)
+
+  abbrev pub start_value : Option Initializer → Option Val
+  start_value None = None
+  start_value (Some i) = Some (value_of i.value)
 
   abbrev pub declarator_of : Declared → Declarator
   declarator_of d = record {
     slot = slot_named (facts.names (d.declarator).name);
     type = facts.declared (d.declarator).name;
-    start = option_map (λ i. value_of i.value) d.initializer;
+    start = start_value d.initializer;
   }
 
   abbrev pub declarators_of : Decl → List Declarator
   declarators_of d = map declarator_of d.parts
 
-  -- ---- statements
+  -- ---- statements (6.8), and what they may leave out
+
+  abbrev pub value_if : Option Expr → Option Val
+  value_if None = None
+  value_if (Some e) = Some (value_of e)
+
+  abbrev pub truth_if : Option Expr → Option Cond
+  truth_if None = None
+  truth_if (Some e) = Some (truth_of e)
+
+  abbrev pub simple_if : Option source_simple.Simple → Option Simple
+  simple_if None = None
+  simple_if (Some s) = Some (simple_of s)
 
   -- what stands before the first `;` of a `for`
   abbrev pub head_simple : Head → Option Simple
   head_simple (head.Decl d) = None
-  head_simple (head.Simple s) = option_map simple_of s
+  head_simple (head.Simple s) = simple_if s
 
   abbrev pub head_declarators : Head → List Declarator
   head_declarators (head.Decl d) = declarators_of d
@@ -215,8 +229,8 @@ module _ (facts : Facts) where
   stmt_level (stmt.IfElse w c a b) = core.choice_else (truth_of c) a b
   stmt_level (stmt.While w c body) = core.loop (truth_of c) body
   stmt_level (stmt.Do w body c) = core.repeat body (truth_of c)
-  stmt_level (stmt.For w h c next body) = core.loop_for (head_simple h) (head_declarators h) (option_map truth_of c) (option_map simple_of next) body
-  stmt_level (stmt.Return w e) = core.return (option_map value_of e)
+  stmt_level (stmt.For w h c next body) = core.loop_for (head_simple h) (head_declarators h) (truth_if c) (simple_if next) body
+  stmt_level (stmt.Return w e) = core.return (value_if e)
   stmt_level (stmt.Break w) = core.break
   stmt_level (stmt.Continue w) = core.continue
   stmt_level (stmt.Simple s) = core.simple (simple_of s)
@@ -230,7 +244,7 @@ module _ (facts : Facts) where
   abbrev pub body_of : List Part → Parts
   body_of parts = parts_of (map piece_of parts)
 
-  -- ---- functions
+  -- ---- functions (6.9.1)
 
   abbrev pub param_of : Param → Cell
   param_of p = first_cell (facts.declared p.name).cells

@@ -1,5 +1,5 @@
 -- The count of faults from the start of several calls to their end.
-use Rattle.std.proofs.Common.{◌≡◌, ℕ, ◌+◌, ◌<◌, ◌≤◌, ◌^◌, ◌⊎◌, min, arith, subst, sym, inl, inr, ⊎_elim}
+use Rattle.std.proofs.Common.{◌≡◌, ℕ, ◌<◌, ◌≤◌, ◌^◌, arith, inl, inr, ⊎_elim}
 use Rattle.cc_outside.specs.Faults.{Rose, counted_up}
 
 -- a count that rose and never fell after that rose from start to end

@@ -1,7 +1,6 @@
 -- What several writes append.
 use Rattle.std.proofs.Common.{◌≡◌, ℕ, List, [], ◌++◌, Option, None, Some, refl, sym, ap, ◌∙◌, append_assoc}
 use Rattle.std.proofs.lemmas.List.{append-nil}
-use Rattle.cc_outside.specs.Prefix.{IsFirstPart}
 use Rattle.cc_outside.specs.Told.{appended, WritesPart}
 use Rattle.cc_outside.proofs.PrefixLemmas.{IsFirstPart-append, IsFirstPart-after, IsFirstPart-empty}
 

@@ -41,7 +41,8 @@ pub trait Files {
         ensures never_falls { faults self.old ≤ faults self.new }
         ensures bounded { faults self.new < 2 ^ 64 }
         ensures within_limit { IfOk result (λ v. vec_len v ≤ limit) }
-        ensures failed { IsErrOf result LoadFault.Failed → Rose (faults self.old) (faults self.new) }
+        ensures failed { IsErrOf result LoadFault.Failed
+            → Rose (faults self.old) (faults self.new) }
 
         // What each answer means where the files are told.
         ensures bytes { (h : Held) → held self.old ≡ Some h

@@ -34,7 +34,8 @@ impl Model for MemSink {
 impl MemSink {
     /// An empty sink, of which no write is to fail. Its bytes are stored by `alloc`.
     pub fn new(alloc: Global) -> MemSink
-        ensures { result ≡ record { written = []; writes = 0; fails_at = None; keep = 0; faults = 0 } }
+        ensures { result
+            ≡ record { written = []; writes = 0; fails_at = None; keep = 0; faults = 0 } }
     {
         MemSink {
             bytes: Vec::new(alloc),

@@ -11,7 +11,9 @@ use std::{fs, io, rt};
 
 /// The files of the file system, by their paths.
 ///
-/// It tells nothing of what they hold.
+/// It tells nothing of what they hold. `Missing` comes where std finds no such file, `NoMemory`
+/// where std wants memory, and `Failed` at any other failure. Each failure but a missing file is
+/// counted. A read that was interrupted is none, and is made again.
 #[derive(Drop)]
 pub struct RealFiles<R: rt::Files + Drop> {
     runtime: R,
@@ -69,7 +71,8 @@ fn read_file<R: rt::Files>(
 /// Why a file was not opened.
 fn open_fault(error: &io::Error) -> LoadFault
     ensures missing { (result ≡ LoadFault.Missing) ↔ (error_kind error.now ≡ ErrorKind.NotFound) }
-    ensures no_memory { (result ≡ LoadFault.NoMemory) ↔ (error_kind error.now ≡ ErrorKind.OutOfMemory) }
+    ensures no_memory { (result ≡ LoadFault.NoMemory)
+        ↔ (error_kind error.now ≡ ErrorKind.OutOfMemory) }
     ensures never_long { result ≢ LoadFault.TooLong }
 {
     match error.kind() {

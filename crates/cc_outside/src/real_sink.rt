@@ -9,7 +9,9 @@ use std::io::{ErrorKind, Write};
 
 /// A sink that writes to a stream of std, as standard output, and flushes it after each piece.
 ///
-/// It tells nothing of what was written, and never answers `NoMemory`.
+/// It tells nothing of what was written, and never answers `NoMemory`. Each failure is counted,
+/// also of a flush, and also where the stream takes nothing of what is left. A write that was
+/// interrupted is none, and is made again.
 #[derive(Drop)]
 pub struct RealSink<W: Write + Drop> {
     writer: W,
@@ -42,10 +44,10 @@ impl<W: Write + Drop> Sink for RealSink<W> {
         ensures bounded { faults_of self.new < 2 ^ 64 }
 
         // What the stream is known to hold, at streams that say so.
-        ensures whole { OnOk result
-            (Appends (W.contents (writer_of self.old)) (W.contents (writer_of self.new)) piece.now) }
-        ensures part { OnErr result
-            (AppendsPart (W.contents (writer_of self.old)) (W.contents (writer_of self.new)) piece.now) }
+        ensures whole { OnOk result (Appends
+            (W.contents (writer_of self.old)) (W.contents (writer_of self.new)) piece.now) }
+        ensures part { OnErr result (AppendsPart
+            (W.contents (writer_of self.old)) (W.contents (writer_of self.new)) piece.now) }
     {
         let faults = self.faults;
         if write_piece(&mut self.writer, piece).is_err() {
@@ -73,9 +75,10 @@ fn write_piece<W: Write>(writer: &mut W, piece: &[u8]) -> Result<(), SinkFault>
     Err(SinkFault::Failed)
 }
 
-/// One write of what is left, which is not empty, and how much of it the stream took. That is
-/// nothing where the write was interrupted.
+/// One write of what is left, and how much of it the stream took. That is nothing where the write
+/// was interrupted.
 fn write_some<W: Write>(writer: &mut W, rest: &[u8]) -> Result<usize, SinkFault>
+    requires { 0 < length rest.now }
     ensures bound { IfOk result (λ n. n ≤ length rest.now) }
     ensures bytes { WriteAppends (W.contents writer.old) (W.contents writer.new) result rest.now }
 {

@@ -32,6 +32,8 @@ pub trait Sink {
         ensures never_falls { faults self.old ≤ faults self.new }
         ensures bounded { faults self.new < 2 ^ 64 }
         ensures ok { OnOk result (written self.new ≡ appended (written self.old) piece.now) }
+
+        // What a fault leaves: a first part of the piece, which is empty where memory ran out.
         ensures failed_rose { IsErrOf result SinkFault.Failed
             → Rose (faults self.old) (faults self.new) }
         ensures failed_part { OnErr result

@@ -1,4 +1,12 @@
 pub mod Numerals
 pub mod Forms
 mod SumRuns
+mod SumBytes
 mod SumPrograms
+mod Entries
+mod OneListing
+mod ReportText
+mod Written
+mod Ended
+mod Calls
+mod Promises

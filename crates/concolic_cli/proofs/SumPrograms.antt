@@ -1,5 +1,5 @@
 -- Programs that return a sum: every input takes the one path of the sum.
-use Rattle.std.proofs.Common.{◌≡◌, ℕ, zero, suc, ◌+◌, ◌-◌, ◌≤◌, ◌<◌, ℤ, pos, Bool, true, false, List, [], ◌∷◌, ◌++◌, length, map, Option, Some, None, refl, sym, ap, subst, ◌∙◌, arith, slice_get, append-nil}
+use Rattle.std.proofs.Common.{◌≡◌, ℕ, zero, suc, ◌+◌, ◌-◌, ◌≤◌, ◌<◌, ℤ, pos, Bool, true, false, List, [], ◌∷◌, ◌++◌, length, map, Option, Some, None, refl, sym, ap, subst, ◌∙◌, arith, slice_get, append-nil, All}
 use Rattle.std.proofs.lemmas.Bool.{leb-true}
 use Rattle.std.proofs.lemmas.Option.{slice_get_past}
 use Rattle.cc_base.specs.declared.outcomes.Outcome.{Outcome}
@@ -7,6 +7,7 @@ use Rattle.cc_base.specs.declared.ends.End.{End}
 use Rattle.cc_base.specs.declared.ends.End.TheVariants.{Return}
 use Rattle.cc_base.specs.declared.inputs.Input.{Input}
 use Rattle.cc_base.specs.Limits.{Limits}
+use Rattle.cc_base.specs.Outcomes.{HasByte}
 use Rattle.cc_base.specs.Paths.{Path}
 use Rattle.cc_model.specs.declared.tokens.Kind.{Kind}
 use Rattle.cc_model.specs.declared.tokens.Token.{Token}
@@ -26,12 +27,14 @@ use Rattle.cc_model.specs.Reads as reads
 use Rattle.cc_model.specs.Resolve.{value_of, func_of, body_of, parts_of, param_of}
 use Rattle.cc_model.specs.Source.{functions_of, no_facts, program_of, line_of, IsProgram}
 use Rattle.cc_model.specs.Listing.{at_steps}
-use Rattle.cc_model.specs.Canonical.{AreCells, IsCanonical, AllWithin, base_input_of}
-use Rattle.cc_model.specs.Runs.{path_of, end_of, run, run_of, begin_of, fixed_of, path_at, end_at, params_of, IsInput}
+use Rattle.cc_model.specs.Canonical.{IsCanonical}
+use Rattle.cc_model.specs.Runs.{path_of, end_of, run, run_of, begin_of, fixed_of, path_at, end_at, params_of, params_of_func}
 use Rattle.cc_model.proofs.Resolved.{stmt_return, piece_stmt}
 use Rattle.concolic_cli.specs.declared.sums.Summed.{Summed}
 use Rattle.concolic_cli.specs.declared.sums.Summed.TheVariants as summed
-use Rattle.concolic_cli.specs.Sums.{SumRun, sum_run}
+use Rattle.concolic_cli.specs.Programs.{Returns}
+use Rattle.concolic_cli.specs.Sums.{SumRun, is_sum, sum_run, end_of_summed}
+use Rattle.concolic_cli.proofs.SumBytes.{summing}
 use Rattle.concolic_cli.proofs.SumRuns.{St, state, Handler, Comes, Evaluated, Shown, sums_shown}
 
 -- a function that returns a value of this expression
@@ -49,11 +52,6 @@ main_ran : (x : Fixed) (h : Handler) (c : Cell) (v : Val) (n k : ℕ) (l : ℕ �
     main_in plain x h (Some (returning c v)) (state (suc (suc n)) k l d) ≡ finished x h (value plain x h v (state n k l d))
 unfolding main_in finished exec exec_parts returns ◌>>=◌ ◌>>◌ go_on prepend pure step step_at
 main_ran x h c v n k l d = refl
-
--- how the run of a function ends that returns the sum
-abbrev pub end_of_summed : Summed → End
-end_of_summed (summed.Value z) = Return
-end_of_summed (summed.Over e) = e
 
 record Ended (p : Path) (r : Summed) (m : Ran Outcome St (Unit {0})) : Type 0 where
   path : path_of plain m.log ≡ p
@@ -103,6 +101,14 @@ found_func tok reads.none h n f g = let past = slice_get_past {X = source.Func} 
 found_func tok (reads.one {f = f'} i) h zero f g = let e : f' ≡ f = cc g in let r = subst (λ u. (e : Expr) × Sum_func tok u e) e (sum_func tok i h) in (refl, ap (λ u. u ∷ []) e, r.0, r.1)
 found_func tok (reads.one {f = f'} i) h (suc n) f g = let past = slice_get_past {X = source.Func} (f' ∷ []) (suc n) (omega arith) in absurd (cc (g, past))
 
+-- a function returns at most one expression
+only_sum : (f : source.Func) (e u : Expr) (w v : ℕ) → f.body ≡ part.Stmt (stmt.Return w (Some e)) ∷ [] → f.body ≡ part.Stmt (stmt.Return v (Some u)) ∷ [] → e ≡ u
+only_sum f e u w v h k = cc (h, k)
+
+-- each function of an accepted program returns a sum
+pub returns_of : (tokens : List Token) (tree : source_program.Program) → Accepts tokens tree → (n : ℕ) (f : source.Func) → slice_get (functions_of tree.items) n ≡ Some f → (e : Expr) × Returns f e
+returns_of tokens tree a n f g = let r = found_func (kind_at tokens) a.items refl n f g in (r.2, (r.3.word, r.3.body))
+
 -- ---- the run of an accepted program
 
 func_is : (tok : ℕ → Option Kind) (f : source.Func) (e : Expr) → Sum_func tok f e → func_of no_facts f ≡ returning core.int_cell (value_of no_facts e)
@@ -139,12 +145,6 @@ main_shown tok x c e s t sums low deep steps depth l d h g =
     (subst (λ k. Ended r.path r.result (main_in plain x hand (Some (returning c (value_of no_facts e))) (state k depth l d))) (sym n.1)
     (subst (λ w. Ended r.path r.result w) (sym (main_ran x hand c (value_of no_facts e) n.0 depth l d)) fin'))
 
--- what the sum of an accepted program comes to
-pub record Sum_program (bytes name : List ℕ) (b : Limits) (p : Program) (f : source.Func) (e : Expr) : Type 0 where
-  pub path : (h : Input) → path_at p b h ≡ (sum_run b.depth (p.line) e []).path
-  pub end : (h : Input) → end_at p b h ≡ end_of_summed (sum_run b.depth (p.line) e []).result
-  pub no_params : params_of p ≡ []
-
 run_shown : (tok : ℕ → Option Kind) (b : Limits) (p : Program) (e : Expr) (s t : Spot) → Sums tok shallow s t e → s.level ≡ 1 → t.level ≤ 200 → 201 ≤ b.steps →
     slice_get (p.funcs) (p.entry) ≡ Some (returning core.int_cell (value_of no_facts e)) → (h : Input) →
     (path_at p b h ≡ (sum_run b.depth (p.line) e []).path) × (end_at p b h ≡ end_of_summed (sum_run b.depth (p.line) e []).result) × (at_steps (end_of_summed (sum_run b.depth (p.line) e []).result) ≡ 0)
@@ -152,3 +152,36 @@ unfolding path_at end_at run_of run
 run_shown tok b p e s t sums low deep steps g h =
     let r = main_shown tok (fixed_of p b) core.int_cell e s t sums low deep b.steps b.depth (begin_of p b h).locals (begin_of p b h).data_now steps g in
     (r.path, r.end, r.in_time)
+
+-- the one function of an accepted program, and the run of every input
+pub record Sum_program (b : Limits) (p : Program) (r : SumRun) : Type 0 where
+  pub no_params : params_of p ≡ []
+  pub path : (h : Input) → path_at p b h ≡ r.path
+  pub end : (h : Input) → end_at p b h ≡ end_of_summed r.result
+  pub in_time : at_steps (end_of_summed r.result) ≡ 0
+  pub bytes : All HasByte r.path
+
+-- the expression that an accepted program's function returns is a sum
+pub sum_returned : (tokens : List Token) (tree : source_program.Program) → Accepts tokens tree → (n : ℕ) (f : source.Func) (e : Expr) →
+    slice_get (functions_of tree.items) n ≡ Some f → Returns f e → is_sum e ≡ true
+sum_returned tokens tree a n f e g ret =
+    let found = found_func (kind_at tokens) a.items refl n f g in
+    subst (λ u. is_sum u ≡ true) (only_sum f found.2 e found.3.word ret.0 found.3.body ret.1) (summing (kind_at tokens) shallow 0 (λ t. 0) found.3.sums).0
+
+pub sum_program : (tokens : List Token) (tree : source_program.Program) (b : Limits) (n : ℕ) (f : source.Func) (e : Expr) → Accepts tokens tree →
+    slice_get (functions_of tree.items) n ≡ Some f → Returns f e → 201 ≤ b.steps → Sum_program b (program_of tokens tree n) (sum_run b.depth (line_of tokens) e [])
+sum_program tokens tree b n f e a g ret steps =
+    let p = program_of tokens tree n in
+    let found = found_func (kind_at tokens) a.items refl n f g in
+    let same : found.2 ≡ e = only_sum f found.2 e found.3.word ret.0 found.3.body ret.1 in
+    let w : Sum_func (kind_at tokens) f e = subst (λ u. Sum_func (kind_at tokens) f u) same found.3 in
+    let funcs : p.funcs ≡ returning core.int_cell (value_of no_facts e) ∷ [] = ap (λ l. map (func_of no_facts) l) found.1 ∙ ap (λ x. x ∷ []) (func_is (kind_at tokens) f e w) in
+    let here : slice_get (p.funcs) (p.entry) ≡ Some (returning core.int_cell (value_of no_facts e)) = ap (λ k. slice_get (p.funcs) k) found.0 ∙ ap (λ l. slice_get l 0) funcs in
+    let runs = run_shown (kind_at tokens) b p e w.from w.to w.sums w.level w.deep steps here in
+    record {
+      no_params = ap (λ o. params_of_func o) here;
+      path = λ h. (runs h).0;
+      end = λ h. (runs h).1;
+      in_time = (runs (record { cells = []; stream = [] })).2;
+      bytes = (summing (kind_at tokens) shallow b.depth (line_of tokens) w.sums).1 [] (λ k d h. absurd (omega (arith, h)));
+    }

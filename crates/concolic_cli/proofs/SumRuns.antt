@@ -1,5 +1,5 @@
 -- The run of a function that returns a sum is the run that the definitions give.
-use Rattle.std.proofs.Common.{◌≡◌, ℕ, zero, suc, ◌+◌, ◌-◌, ◌≤◌, ◌<◌, ℤ, pos, ◌+ℤ◌, ◌-ℤ◌, Bool, true, false, List, [], ◌∷◌, ◌++◌, length, Option, Some, None, refl, sym, ap, subst, ◌∙◌, arith, nat_lt, if◌then◌else◌, slice_get, length-append, append_assoc, append-nil}
+use Rattle.std.proofs.Common.{◌≡◌, ℕ, zero, suc, ◌+◌, ◌-◌, ◌≤◌, ◌<◌, ℤ, pos, ◌+ℤ◌, ◌-ℤ◌, Bool, true, false, ◌&&◌, List, [], ◌∷◌, ◌++◌, length, Option, Some, None, refl, sym, ap, subst, ◌∙◌, arith, nat_lt, if◌then◌else◌, slice_get, length-append, append_assoc, append-nil}
 use Rattle.std.proofs.lemmas.Bool.{le-ltb, lt-ltb}
 use Rattle.cc_base.specs.declared.outcomes.Outcome.{Outcome}
 use Rattle.cc_base.specs.declared.outcomes.Outcome.TheVariants.{Zero, High, Low, Plain, False, True, Object}
@@ -29,7 +29,7 @@ use Rattle.cc_model.proofs.Resolved.{resolve_number, resolve_sum, resolve_differ
 use Rattle.concolic_cli.specs.declared.sums.Summed.{Summed}
 use Rattle.concolic_cli.specs.declared.sums.Summed.TheVariants as summed
 use Rattle.concolic_cli.specs.Sums as sums
-use Rattle.concolic_cli.specs.Sums.{SumRun, ran, fit, then_, then_at, sum_here, sum_run}
+use Rattle.concolic_cli.specs.Sums.{SumRun, ran, fit, then_, then_at, is_sum_here, is_sum, sum_here, sum_run}
 
 abbrev pub St : Type 0
 St = State Value Data
@@ -180,7 +180,7 @@ op_shown depth x h t o w a y n k left l d p ra e =
 
 -- ---- sums
 
-run_number : (depth : ℕ) (line : ℕ → ℕ) (f t : ℕ) (z : ℤ) (p : Path) → sum_run depth line (tree.Number f t z) p ≡ ran p (summed.Value z)
+pub run_number : (depth : ℕ) (line : ℕ → ℕ) (f t : ℕ) (z : ℤ) (p : Path) → sum_run depth line (tree.Number f t z) p ≡ ran p (summed.Value z)
 run_number depth line f t z p =
     ap (λ e. sum_run depth line e p) (sym (tree.rolls-Number f t z)) ∙ ap (λ g. g p) (fold-roll-Expr (Path → SumRun) (sum_here depth line) (level.Number f t z))
 
@@ -196,19 +196,31 @@ behind_number depth line o f t y op r = by_result r.result r.path
     by_result (summed.Over e) q = refl
     by_result (summed.Value x) q = ap (λ n. then_ depth line n (λ z u. fit depth line op (o x z) u)) (run_number depth line f t y q)
 
-run_sum : (depth : ℕ) (line : ℕ → ℕ) (f t : ℕ) (a : Expr) (g u : ℕ) (y : ℤ) (p : Path) →
+pub run_sum : (depth : ℕ) (line : ℕ → ℕ) (f t : ℕ) (a : Expr) (g u : ℕ) (y : ℤ) (p : Path) →
     sum_run depth line (tree.Sum f t a (tree.Number g u y)) p ≡ then_ depth line (sum_run depth line a p) (λ x q. fit depth line t (x +ℤ y) q)
 run_sum depth line f t a g u y p =
     ap (λ e. sum_run depth line e p) (sym (tree.rolls-Sum f t a (tree.Number g u y)))
     ∙ (ap (λ r. r p) (fold-roll-Expr (Path → SumRun) (sum_here depth line) (level.Sum f t a (tree.Number g u y)))
     ∙ behind_number depth line (λ x y. x +ℤ y) g u y t (sum_run depth line a p))
 
-run_difference : (depth : ℕ) (line : ℕ → ℕ) (f t : ℕ) (a : Expr) (g u : ℕ) (y : ℤ) (p : Path) →
+pub run_difference : (depth : ℕ) (line : ℕ → ℕ) (f t : ℕ) (a : Expr) (g u : ℕ) (y : ℤ) (p : Path) →
     sum_run depth line (tree.Difference f t a (tree.Number g u y)) p ≡ then_ depth line (sum_run depth line a p) (λ x q. fit depth line t (x -ℤ y) q)
 run_difference depth line f t a g u y p =
     ap (λ e. sum_run depth line e p) (sym (tree.rolls-Difference f t a (tree.Number g u y)))
     ∙ (ap (λ r. r p) (fold-roll-Expr (Path → SumRun) (sum_here depth line) (level.Difference f t a (tree.Number g u y)))
     ∙ behind_number depth line (λ x y. x -ℤ y) g u y t (sum_run depth line a p))
+
+pub is_number : (f t : ℕ) (z : ℤ) → is_sum (tree.Number f t z) ≡ true
+is_number f t z = ap (λ e. is_sum e) (sym (tree.rolls-Number f t z)) ∙ fold-roll-Expr Bool is_sum_here (level.Number f t z)
+
+both : (a b : Bool) → a ≡ true → b ≡ true → (a && b) ≡ true
+both a b h k = ap (λ c. c && b) h ∙ k
+
+pub is_sum_of : (f t : ℕ) (a : Expr) (g : ℕ) (z : ℤ) → is_sum a ≡ true → is_sum (tree.Sum f t a (tree.Number g g z)) ≡ true
+is_sum_of f t a g z h = ap (λ e. is_sum e) (sym (tree.rolls-Sum f t a (tree.Number g g z))) ∙ (fold-roll-Expr Bool is_sum_here (level.Sum f t a (tree.Number g g z)) ∙ both (is_sum a) (is_sum (tree.Number g g z)) h (is_number g g z))
+
+pub is_difference_of : (f t : ℕ) (a : Expr) (g : ℕ) (z : ℤ) → is_sum a ≡ true → is_sum (tree.Difference f t a (tree.Number g g z)) ≡ true
+is_difference_of f t a g z h = ap (λ e. is_sum e) (sym (tree.rolls-Difference f t a (tree.Number g g z))) ∙ (fold-roll-Expr Bool is_sum_here (level.Difference f t a (tree.Number g g z)) ∙ both (is_sum a) (is_sum (tree.Number g g z)) h (is_number g g z))
 
 value_number : (f t : ℕ) (z : ℤ) → value_of no_facts (tree.Number f t z) ≡ core.number z
 value_number f t z = ap (λ r. r.value) (resolve_number no_facts f t z)

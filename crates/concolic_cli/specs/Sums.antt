@@ -3,6 +3,7 @@ use Rattle.std.specs.Prelude.{ℕ, ◌+ℤ◌, ◌-ℤ◌, ℤ, Bool, true, fals
 use Rattle.cc_base.specs.declared.outcomes.Outcome.{Outcome}
 use Rattle.cc_base.specs.declared.outcomes.Outcome.TheVariants.{Zero, High, Low, Plain, False, True, Object}
 use Rattle.cc_base.specs.declared.ends.FaultKind.TheVariants.{Overflow}
+use Rattle.cc_base.specs.declared.ends.End.{End}
 use Rattle.cc_base.specs.declared.ends.End.TheVariants.{Return, Cut, Fault}
 use Rattle.cc_base.specs.Paths.{Path}
 use Rattle.cc_model.specs.declared.trees.Expr.{Expr, fold-Expr}
@@ -57,3 +58,8 @@ module _ (depth : ℕ) (line : ℕ → ℕ) where
   -- the evaluation of a sum behind the events so far: left, right, then the event
   abbrev pub sum_run : Expr → Path → SumRun
   sum_run e = fold-Expr (Path → SumRun) sum_here e
+
+-- how the run of a function ends that returns the sum
+abbrev pub end_of_summed : Summed → End
+end_of_summed (Value z) = Return
+end_of_summed (Over e) = e

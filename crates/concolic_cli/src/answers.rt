@@ -1,8 +1,8 @@
 //! What the tool says where it refuses.
 
-ghost use Rattle.std.specs.Prelude.{◌≡◌, ◌++◌, ◌^◌, ◌<◌, ◌≤◌, IfOk, codes};
+ghost use Rattle.std.specs.Prelude.{◌≡◌, ◌++◌, ◌^◌, ◌<◌, ◌≤◌, IfOk, codes, true};
 ghost use Rattle.cc_outside.specs.Faults.{Rose};
-ghost use Rattle.concolic_cli.specs.Refusals.{bad_word_text, file_text, what_text, refusal_line, Says, IsAnswered, wants_memory};
+ghost use Rattle.concolic_cli.specs.Refusals.{bad_word_text, file_text, what_text, refusal_line, Says, IsAnswered, wants_memory, status_of};
 ghost use Rattle.cc_model.specs.Report.{newline};
 ghost use Rattle.cc_model.specs.Source.{source_text, no_entry_text};
 
@@ -81,4 +81,87 @@ fn say<E: Sink>(err: &mut E, line: &[u8])
     ensures { Says (E.written err.old) (E.written err.new) (E.faults err.old) (E.faults err.new) line.now }
 {
     let _ = err.write(line);
+}
+
+/// The line of a refusal that is not a bad word, with a newline.
+fn line_of(
+    alloc: Global,
+    refusal: Refusal,
+    file: &str,
+    entry: &str,
+) -> Result<Vec<u8>, NoMemory>
+    requires { wants_memory refusal ≡ true }
+    ensures { IfOk result (λ line. line.items ≡ refusal_line file.now entry.now refusal) }
+{
+    match refusal {
+        Refusal::Missing => file_line(alloc, file, "missing"),
+        Refusal::TooLong => file_line(alloc, file, "too long"),
+        Refusal::FileFailed => file_line(alloc, file, "failed"),
+        Refusal::Source(line, wrong) => source_line(alloc, line, wrong),
+        Refusal::NoEntry => no_entry_line(alloc, entry),
+        Refusal::BadWord(_) | Refusal::NotYet | Refusal::OutputFailed | Refusal::NoMemory => {
+            unreachable!()
+        }
+    }
+}
+
+/// Says a line that takes memory, or that there is none.
+fn refuse_by_line<E: Sink>(
+    alloc: Global,
+    refusal: Refusal,
+    status: u8,
+    file: &str,
+    entry: &str,
+    err: &mut E,
+) -> Status
+    requires memory { wants_memory refusal ≡ true }
+    requires status { status ≡ status_of refusal }
+    ensures { IsAnswered (E.written err.old) (E.written err.new) (E.faults err.old) (E.faults err.new) file.now entry.now refusal result.0 }
+{
+    match line_of(alloc, refusal, file, entry) {
+        Ok(line) => {
+            say(err, &line);
+            Status(status)
+        }
+        Err(NoMemory) => {
+            say(err, b"no memory\n");
+            Status(7)
+        }
+    }
+}
+
+/// Says why a call is refused, and answers its status.
+pub fn refuse<E: Sink>(
+    alloc: Global,
+    refusal: Refusal,
+    file: &str,
+    entry: &str,
+    err: &mut E,
+) -> Status
+    ensures { IsAnswered (E.written err.old) (E.written err.new) (E.faults err.old) (E.faults err.new) file.now entry.now refusal result.0 }
+{
+    match refusal {
+        Refusal::BadWord(word) => {
+            say(err, bad_word_line(word).as_bytes());
+            Status(2)
+        }
+        Refusal::NotYet => {
+            say(err, b"source not yet\n");
+            Status(3)
+        }
+        Refusal::OutputFailed => {
+            say(err, b"output failed\n");
+            Status(5)
+        }
+        Refusal::NoMemory => {
+            say(err, b"no memory\n");
+            Status(7)
+        }
+        Refusal::Missing | Refusal::TooLong | Refusal::FileFailed => {
+            refuse_by_line(alloc, refusal, 4, file, entry, err)
+        }
+        Refusal::Source(_, _) | Refusal::NoEntry => {
+            refuse_by_line(alloc, refusal, 3, file, entry, err)
+        }
+    }
 }

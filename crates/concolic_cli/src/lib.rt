@@ -2,10 +2,14 @@
 #![tactic(auto)]
 
 mod answers;
+mod call;
+mod program;
 mod refusal;
 mod report;
+mod session;
 mod sums;
 pub mod words;
 
 pub use answers::Status;
+pub use call::concolic;
 pub use words::read_words;

@@ -1,10 +1,12 @@
 //! Runs of a function that returns a sum of numbers.
 
-ghost use Rattle.std.specs.Prelude.{◌≡◌, ◌^◌, ◌<◌, ◌≤◌, ◌+ℤ◌, ◌-ℤ◌, true, IfOk, length};
+ghost use Rattle.std.specs.Prelude.{◌≡◌, ◌^◌, ◌<◌, ◌≤◌, ◌+ℤ◌, ◌-ℤ◌, true, IfOk, length, []};
 ghost use Rattle.cc_base.specs.declared.ends.FaultKind.TheVariants.{Overflow};
 ghost use Rattle.cc_base.specs.declared.ends.End.TheVariants.{Fault};
 ghost use Rattle.cc_model.specs.Source.{line_of};
-ghost use Rattle.concolic_cli.specs.Sums.{is_sum, sum_run, fit, ran};
+ghost use Rattle.concolic_cli.specs.Sums.{is_sum, sum_run, fit, ran, SumRun, end_of_summed};
+
+use std::alloc::Global;
 
 use cc_model::base::{End, FaultKind, Items, NoMemory, Outcome};
 use cc_model::{Expr, Token};
@@ -95,4 +97,26 @@ fn evaluate(
         }
         _ => unreachable!(),
     }
+}
+
+/// The run of a function that returns a sum: its path and its end.
+#[derive(Drop)]
+pub struct Ran {
+    pub path: Items<Outcome>,
+    pub end: End,
+}
+
+/// Runs a function that returns the sum.
+pub fn run(alloc: Global, tokens: &[Token], depth: u32, sum: &Expr) -> Result<Ran, NoMemory>
+    requires { is_sum sum.now ≡ true }
+    ensures path { IfOk result (λ r. r.path ≡ (sum_run depth (line_of tokens.now) sum.now []).path) }
+    ensures end { IfOk result (λ r. r.end ≡ end_of_summed (sum_run depth (line_of tokens.now) sum.now []).result) }
+{
+    let mut path = Items::new(alloc);
+    let summed = evaluate(tokens, depth, sum, &mut path)?;
+    let end = match summed {
+        Summed::Value(_) => End::Return,
+        Summed::Over(end) => end,
+    };
+    Ok(Ran { path, end })
 }

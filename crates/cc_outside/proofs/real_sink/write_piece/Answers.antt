@@ -1,5 +1,5 @@
 -- The stream has taken a first part of the piece, the whole of it at the end.
-use Rattle.std.proofs.Common.{ℕ, take}
+use Rattle.std.proofs.Common.{take}
 use Rattle.std.proofs.lemmas.Result.{err_from_is_err_and}
 use Rattle.cc_outside.proofs.PrefixLemmas.{IsFirstPart-take}
 use Rattle.cc_outside.proofs.StreamLemmas.{Appends-kept, Appends-more, length-more}

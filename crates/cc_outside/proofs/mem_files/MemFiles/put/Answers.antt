@@ -1,7 +1,6 @@
 -- A file that was put is the one of its name, and the others stay.
-use Rattle.std.proofs.Common.{◌≡◌, ◌≢◌, ℕ, List, [], ◌∷◌, ◌++◌, Option, None, Some, position, set, sym, ap, ◌∙◌}
+use Rattle.std.proofs.Common.{position, sym, ap, ◌∙◌}
 use Rattle.std.specs.Str.{bytes_eq}
-use Rattle.cc_outside.specs.Held.{NamedFile, Held, file_of}
 use Rattle.cc_outside.proofs.HeldLemmas.{file_of-set, file_of-set_other, file_of-push, file_of-push_other}
 use Rattle.cc_outside.proofs.mem_files.MemFiles.put.Goals as goal
 

@@ -1,0 +1,4 @@
+pub mod Faults
+pub mod Positions
+pub mod Tables
+pub mod Views
