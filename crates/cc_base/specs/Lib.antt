@@ -4,3 +4,13 @@ pub mod Ends
 pub mod Limits
 pub mod Inputs
 pub mod Forms
+pub mod Places
+pub mod Holds
+pub mod Classes
+pub mod Inequality
+pub mod Pass
+pub mod Witness
+pub mod Groups
+pub mod Slice
+pub mod Need
+pub mod Solve

@@ -8,6 +8,7 @@ pub mod forms;
 pub mod inputs;
 pub mod memory;
 pub mod outcomes;
+pub mod passes;
 
 pub use bounds::Bounds;
 pub use cells::{CellTy, TyId};
@@ -16,4 +17,8 @@ pub use forms::Multiple;
 pub use inputs::{Input, PathText, Test, Text};
 pub use memory::NoMemory;
 pub use outcomes::Outcome;
+pub use passes::{Mode, PassEnd};
 pub use sqlite_items::{Boxed, Items};
+
+#[cfg(test)]
+mod tests;

@@ -1,5 +1,5 @@
 -- Runs of a program on its inputs: their paths and ends, and the tests that are real.
-use Rattle.std.specs.Prelude.{ℕ, suc, List, [], ◌∷◌, ◌≡◌, Option, Some, None, map, slice_get}
+use Rattle.std.specs.Prelude.{ℕ, suc, List, [], ◌∷◌, Option, Some, None, map, slice_get}
 use Rattle.cc_base.specs.declared.outcomes.Outcome.{Outcome}
 use Rattle.cc_base.specs.declared.ends.End.{End}
 use Rattle.cc_base.specs.declared.ends.End.TheVariants.{Return}
