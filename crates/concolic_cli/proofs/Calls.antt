@@ -50,7 +50,7 @@ pub refused_call : (call : Call) (status : ℕ) (run : RunWords) (why : Refusal)
 refused_call call status run why file entry f e a cause answered =
     let c = subst (λ u. Cause call.seen u (word_of call.words run.entry) run.bounds run.runs why) f (subst (λ u. Cause call.seen file u run.bounds run.runs why) e cause) in
     let s = subst (λ u. IsAnswered call.err_old call.err_new call.err_faults_old call.err_faults_new u (word_of call.words run.entry) why status) f
-        (subst (λ u. IsAnswered call.err_old call.err_new call.err_faults_old call.err_faults_new file u why status) e answered) in
+    (subst (λ u. IsAnswered call.err_old call.err_new call.err_faults_old call.err_faults_new file u why status) e answered) in
     refused run why a c s
 
 -- ---- by status
@@ -102,8 +102,14 @@ at_report_of call status run a l quiet =
     let v = verdict_is l.listing l.lists.listing.complete in
     let small : (status ≡ 0) ⊎ (status ≡ 1) = ⊎_elim (λ h. inl (l.verdict ∙ h)) (λ h. inr (l.verdict ∙ h)) v in
     at_report small (record {
-      run = run; bytes = l.bytes; program = l.program; listing = l.listing; session = record { accepted = a; read = l.read };
-      lists = l.lists; written = l.written; verdict = l.verdict;
+      run = run;
+      bytes = l.bytes;
+      program = l.program;
+      listing = l.listing;
+      session = record { accepted = a; read = l.read };
+      lists = l.lists;
+      written = l.written;
+      verdict = l.verdict;
     }) quiet
 
 -- a file that is refused, with its text; or memory for the text is wanting

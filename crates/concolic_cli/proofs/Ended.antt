@@ -11,7 +11,10 @@ use Rattle.concolic_cli.specs.Session.{ReadAs, Lists, WriteCause, Seen, ReportBe
 stands : (seen : Seen) (file entry : List ℕ) (b : Limits) (runs : ℕ) (bytes bytes' : List ℕ) (r : Report) → bytes' ≡ bytes → ReadAs seen.held file bytes → ReportsOn bytes' entry b runs r →
     WritesPart seen.out_old seen.out_new (text_of r) → ReportBegun seen file entry b runs
 stands seen file entry b runs bytes bytes' r same read on written = record {
-  bytes = bytes; program = on.program; listing = on.listing; read = read;
+  bytes = bytes;
+  program = on.program;
+  listing = on.listing;
+  read = read;
   lists = subst (λ u. Lists u entry b runs on.program on.listing) same on.lists;
   written = subst (λ t. WritesPart seen.out_old seen.out_new t) (sym on.text) written;
 }

@@ -39,5 +39,5 @@ named_at items i here f lt is e =
     let rest = drop (suc i) items in
     let split : items ≡ take i items ++ (here ∷ rest) = sym (take-append-drop i items) ∙ ap (λ l. take i items ++ l) (drop-cons items i here lt ∙ ap (λ x. x ∷ rest) (sym is)) in
     let functions : functions_of items ≡ functions_of (take i items) ++ (f ∷ functions_of rest) =
-        ap (λ l. functions_of l) split ∙ (functions_append (take i items) (here ∷ rest) ∙ ap (λ l. functions_of (take i items) ++ l) (functions_append (here ∷ []) rest ∙ ap (λ l. l ++ functions_of rest) e)) in
+    ap (λ l. functions_of l) split ∙ (functions_append (take i items) (here ∷ rest) ∙ ap (λ l. functions_of (take i items) ++ l) (functions_append (here ∷ []) rest ∙ ap (λ l. l ++ functions_of rest) e)) in
     subst (λ l. slice_get l (length (functions_of (take i items))) ≡ Some f) (sym functions) (found_at (functions_of (take i items)) f (functions_of rest))

@@ -93,11 +93,14 @@ pub listed : (bytes entry : List ℕ) (tokens : List Token) (tree : source_progr
     ReadsAs bytes tokens tree → IsNamed bytes tokens tree.items n entry f → Returns f e → 201 ≤ b.steps → 1 ≤ runs → sum_run b.depth (line_of tokens) e [] ≡ r →
     Lists bytes entry b runs (program_of tokens tree n) (one_test b r.path (end_of_summed r.result)) × (at_steps (end_of_summed r.result) ≡ 0) × All HasByte r.path
 listed bytes entry tokens tree b runs n f e r reads named ret steps least is =
-    let w = subst (λ u. Sum_program b (program_of tokens tree n) u) is (sum_program tokens tree b n f e reads.read named.0 ret steps) in
-    (record {
-      program = record { tokens = tokens; tree = tree; func = f; lexed = reads.lexed; read = reads.read; found = named.0; named = named.1; core = refl };
-      listing = is_listing b (program_of tokens tree n) r w runs least;
-    }, w.in_time, w.bytes)
+    let w = subst (λ u. Sum_program b (program_of tokens tree n) u) is (sum_program tokens tree b n f e reads.read named.0 ret steps) in (
+      record {
+        program = record { tokens = tokens; tree = tree; func = f; lexed = reads.lexed; read = reads.read; found = named.0; named = named.1; core = refl };
+        listing = is_listing b (program_of tokens tree n) r w runs least;
+      },
+      w.in_time,
+      w.bytes,
+    )
 
 -- ---- what is reported
 

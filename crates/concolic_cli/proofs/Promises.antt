@@ -213,9 +213,10 @@ module _ (call : Call) (status : ℕ) (answered : Ending call status) where
   -- the files hold a source under the word FILE
   module _ (one : OneProgram) (run : RunWords) (bytes : List ℕ) (i : IsSource call.words run (call.seen).held bytes) where
     is_read : (s : RunWords) (c : List ℕ) → IsSession call.words s (call.seen).held c → (c ≡ bytes) × (word_of call.words s.entry ≡ word_of call.words run.entry)
-    is_read s c j =
-        (same_bytes call.words run s (call.seen).held i.files bytes c i.accepted j.accepted i.told i.file j.read,
-        ap (λ u. word_of call.words u.entry) (one_run call.words s run j.accepted i.accepted))
+    is_read s c j = (
+      same_bytes call.words run s (call.seen).held i.files bytes c i.accepted j.accepted i.told i.file j.read,
+      ap (λ u. word_of call.words u.entry) (one_run call.words s run j.accepted i.accepted),
+    )
 
     -- the only fault of the file can be that the files failed
     file_failed : (s : RunWords) (what : List ℕ) → Accepted call.words (Run s) → FileFault (call.seen).held (call.seen).files_old (call.seen).files_new (word_of call.words s.file) what →

@@ -118,7 +118,7 @@ func_is tok f e g =
     let piece = piece_stmt no_facts (stmt.Return g.word (Some e)) in
     let returned = stmt_return no_facts g.word (Some e) in
     let body : body_of no_facts f.body ≡ core.then (core.return (Some (value_of no_facts e))) core.finish =
-        ap (λ u. body_of no_facts u) g.body ∙ (ap (λ q. parts_of (q ∷ [])) piece ∙ ap (λ q. core.then q core.finish) returned) in
+    ap (λ u. body_of no_facts u) g.body ∙ (ap (λ q. parts_of (q ∷ [])) piece ∙ ap (λ q. core.then q core.finish) returned) in
     ap (λ u. made u (body_of no_facts f.body)) params ∙ ap (λ u. made [] u) body
 
 -- the steps of the body and of the return, and those of the operators

@@ -126,7 +126,7 @@ fit_shown depth x t o a y n (suc k) l d p h e =
     let m' : Ran Outcome St Value = record { log = entry_of t (fit_of (apply o a y)) ∷ []; result = fit_result x t (apply o a y) (fit_of (apply o a y)) (state n k l d) } in
     let here : P (sums.fits depth ((x.program).line) (fit_of (apply o a y)) t (apply o a y) p) m' = fits_shown depth x t (apply o a y) (fit_of (apply o a y)) n k l d p h in
     let goes : fits plain x t o (num a) (num y) (state n (suc k) l d) ≡ m' =
-        fit_ran x t o a y n k l d ∙ ap (λ z. record { log = entry_of t (fit_of z) ∷ []; result = fit_result x t (apply o a y) (fit_of z) (state n k l d) }) e in
+    fit_ran x t o a y n k l d ∙ ap (λ z. record { log = entry_of t (fit_of z) ∷ []; result = fit_result x t (apply o a y) (fit_of z) (state n k l d) }) e in
     subst (λ r. P r (fits plain x t o (num a) (num y) (state n (suc k) l d))) (sym (fit_goes depth ((x.program).line) t (apply o a y) p lt))
     (subst (λ m. P (sums.fits depth ((x.program).line) (fit_of (apply o a y)) t (apply o a y) p) m) (sym goes) here)
 
@@ -243,11 +243,13 @@ module _ (tok : ℕ → Option Kind) (fit_levels : ℕ → ℕ → Bool) (depth 
   op_case e a s t u op o y w low up shown re ve zero k p hk hl = absurd (omega (arith, low, up, hl))
   op_case e a s t u op o y w low up shown re ve (suc n) k p hk hl =
       let le : t.level ≤ s.level + n = omega (arith, low, up, hl) in
-      let r = shown n k p hk le in
-      (r.0, omega (arith, up, r.1),
+      let r = shown n k p hk le in (
+        r.0,
+        omega (arith, up, r.1),
         subst (λ r'. Evaluated depth p r.0 l d r' (value plain x h (value_of no_facts e) (state (suc n) k l d))) (sym (re p))
-        (subst (λ v. Evaluated depth p r.0 l d (then_ depth ((x.program).line) (sum_run depth ((x.program).line) a p) (λ z q. fit depth ((x.program).line) op (apply o z y) q)) (value plain x h v (state (suc n) k l d))) (sym ve)
-        (op_shown depth x h op o w (value_of no_facts a) y n k r.0 l d p (sum_run depth ((x.program).line) a p) r.2)))
+            (subst (λ v. Evaluated depth p r.0 l d (then_ depth ((x.program).line) (sum_run depth ((x.program).line) a p) (λ z q. fit depth ((x.program).line) op (apply o z y) q)) (value plain x h v (state (suc n) k l d))) (sym ve)
+            (op_shown depth x h op o w (value_of no_facts a) y n k r.0 l d p (sum_run depth ((x.program).line) a p) r.2)),
+      )
 
   number_case : (f t : ℕ) (z : ℤ) (s : Spot) (n k : ℕ) (p : Path) → length p + k ≡ depth →
       Evaluated depth p n l d (sum_run depth ((x.program).line) (tree.Number f t z) p) (value plain x h (value_of no_facts (tree.Number f t z)) (state n k l d))
@@ -277,12 +279,12 @@ module _ (tok : ℕ → Option Kind) (fit_levels : ℕ → ℕ → Bool) (depth 
       let same : tree.Sum ≡ make = cc e in
       subst (λ m. Shown (m s.at t.at a (tree.Number (suc t.at) (suc t.at) z)) s (record { at = suc (suc t.at); level = suc t.level })) same
       (op_case (tree.Sum s.at t.at a (tree.Number (suc t.at) (suc t.at) z)) a s t (record { at = suc (suc t.at); level = suc t.level }) t.at core.add z (add_is x t.at) low refl shown
-        (λ p. sum_is s.at t.at a (suc t.at) z p) (value_sum s.at t.at a (suc t.at) (suc t.at) z))
+      (λ p. sum_is s.at t.at a (suc t.at) z p) (value_sum s.at t.at a (suc t.at) (suc t.at) z))
   plus_case s t punct.Dash make a e z low shown =
       let same : tree.Difference ≡ make = cc e in
       subst (λ m. Shown (m s.at t.at a (tree.Number (suc t.at) (suc t.at) z)) s (record { at = suc (suc t.at); level = suc t.level })) same
       (op_case (tree.Difference s.at t.at a (tree.Number (suc t.at) (suc t.at) z)) a s t (record { at = suc (suc t.at); level = suc t.level }) t.at core.sub z (sub_is x t.at) low refl shown
-        (λ p. difference_is s.at t.at a (suc t.at) z p) (value_difference s.at t.at a (suc t.at) (suc t.at) z))
+      (λ p. difference_is s.at t.at a (suc t.at) z p) (value_difference s.at t.at a (suc t.at) (suc t.at) z))
   plus_case s t _ make a e z low shown = absurd (cc e)
 
   pub sums_shown : {s t : Spot} {e : Expr} → Sums tok fit_levels s t e → Shown e s t

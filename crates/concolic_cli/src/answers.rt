@@ -6,13 +6,12 @@ ghost use Rattle.concolic_cli.specs.Refusals.{bad_word_text, file_text, what_tex
 ghost use Rattle.cc_model.specs.Report.{newline};
 ghost use Rattle.cc_model.specs.Source.{source_text, no_entry_text};
 
+use crate::refusal::{Refusal, Wrong};
 use arrayvec::ArrayString;
 use cc_model::base::NoMemory;
 use cc_outside::Sink;
 use itoa::Buffer;
 use std::alloc::Global;
-
-use crate::refusal::{Refusal, Wrong};
 
 /// The status with which the program ends.
 #[derive(Clone, Copy, Debug, PartialEq, Eq)]
@@ -84,12 +83,7 @@ fn say<E: Sink>(err: &mut E, line: &[u8])
 }
 
 /// The line of a refusal that is not a bad word, with a newline.
-fn line_of(
-    alloc: Global,
-    refusal: Refusal,
-    file: &str,
-    entry: &str,
-) -> Result<Vec<u8>, NoMemory>
+fn line_of(alloc: Global, refusal: Refusal, file: &str, entry: &str) -> Result<Vec<u8>, NoMemory>
     requires { wants_memory refusal ≡ true }
     ensures { IfOk result (λ line. line.items ≡ refusal_line file.now entry.now refusal) }
 {

@@ -12,15 +12,14 @@ ghost use Rattle.cc_outside.specs.Held.{Held, file_of};
 ghost use Rattle.concolic_cli.specs.Refusals.{bad_word_text, Says};
 ghost use Rattle.concolic_cli.specs.Concolic.{word_of, HasNoCommand, IsSource, Headline, PartOfReport, SourceIsRefused, FileIsRefused, Answered};
 
-use c_parse::one_program;
-use cc_model::Command;
-use cc_outside::{Files, Sink};
-use std::alloc::Global;
-
 use crate::answers::{Status, refuse};
 use crate::refusal::Refusal;
 use crate::session::session;
 use crate::words::read_words;
+use c_parse::one_program;
+use cc_model::Command;
+use cc_outside::{Files, Sink};
+use std::alloc::Global;
 
 /// Word number `number`, from 1.
 fn word(words: &[String], number: u32) -> &str
@@ -40,12 +39,20 @@ fn answer<F: Files, K: Sink, E: Sink>(
     err: &mut E,
 ) -> Status
     ensures answered { Answered (record {
-        words = texts words.now;
-        seen = record {
-            held = F.held files.old; files_old = F.faults files.old; files_new = F.faults files.new;
-            out_old = K.written out.old; out_new = K.written out.new; faults_old = K.faults out.old; faults_new = K.faults out.new
-        };
-        err_old = E.written err.old; err_new = E.written err.new; err_faults_old = E.faults err.old; err_faults_new = E.faults err.new
+      words = texts words.now;
+      seen = record {
+        held = F.held files.old;
+        files_old = F.faults files.old;
+        files_new = F.faults files.new;
+        out_old = K.written out.old;
+        out_new = K.written out.new;
+        faults_old = K.faults out.old;
+        faults_new = K.faults out.new;
+      };
+      err_old = E.written err.old;
+      err_new = E.written err.new;
+      err_faults_old = E.faults err.old;
+      err_faults_new = E.faults err.new;
     }) result.0 }
     ensures held { F.held files.new ≡ F.held files.old }
 {

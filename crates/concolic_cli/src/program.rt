@@ -9,13 +9,12 @@ ghost use Rattle.concolic_cli.specs.Programs.{IsWithin, ReadsAs, IsNoProgram, Re
 ghost use Rattle.cc_model.specs.declared.trees.Expr.{Expr};
 ghost use Rattle.cc_model.specs.declared.trees.Func.{Func};
 
+use crate::refusal::{Refusal, Wrong};
 use c_lex::{LexFault, lex};
 use c_parse::{ParseFault, parse};
 use cc_model::trees::{Item, Part};
 use cc_model::{Expr, Func, Program, Stmt, Token};
 use std::alloc::Global;
-
-use crate::refusal::{Refusal, Wrong};
 
 /// The bytes before an offset.
 fn before(source: &[u8], offset: u32) -> &[u8]
@@ -131,7 +130,8 @@ fn named_in<'p>(source: &[u8], tokens: &[Token], item: &'p Item, name: &str) -> 
                 None
             }
         }
-        Item::Alias(_, _) | Item::Struct(_) | Item::Globals(_, _) | Item::Prototype(_, _, _) => None,
+        Item::Alias(_, _) | Item::Struct(_) | Item::Globals(_, _) | Item::Prototype(_, _, _) =>
+            None,
     }
 }
 

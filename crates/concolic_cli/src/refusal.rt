@@ -2,7 +2,6 @@
 
 ghost use Rattle.std.specs.Prelude.{◌≡◌, ◌++◌, ◌^◌, ◌<◌, ◌≤◌, IfOk, codes};
 
-
 use arrayvec::ArrayString;
 use cc_model::base::NoMemory;
 use cc_outside::Sink;

@@ -9,12 +9,10 @@ ghost use Rattle.cc_model.specs.Listing.{test_item, at_steps};
 ghost use Rattle.concolic_cli.specs.OneTest.{test_of, one_test};
 ghost use Rattle.concolic_cli.specs.Lines.{text_of};
 
-use std::alloc::Global;
-
+use crate::sums::Ran;
 use cc_model::base::{Bounds, End, NoMemory, Outcome};
 use itoa::Buffer;
-
-use crate::sums::Ran;
+use std::alloc::Global;
 
 /// The first line of a report.
 pub fn bounds_line(alloc: Global, bounds: &Bounds) -> Result<Vec<u8>, NoMemory>

@@ -5,16 +5,15 @@ ghost use Rattle.cc_outside.specs.Told.{appended, WritesPart};
 ghost use Rattle.concolic_cli.specs.Lines.{text_of, ReportsOn};
 ghost use Rattle.concolic_cli.specs.Session.{ReadAs, FileCause, SourceCause, WriteCause, Ends};
 
-use cc_model::RunWords;
-use cc_model::base::NoMemory;
-use cc_outside::{Files, LoadFault, Sink, SinkFault};
-use std::alloc::Global;
-
 use crate::answers::Status;
 use crate::program::{read_program, tested_sum};
 use crate::refusal::Refusal;
 use crate::report::{Report, report_on};
 use crate::sums::run;
+use cc_model::RunWords;
+use cc_model::base::NoMemory;
+use cc_outside::{Files, LoadFault, Sink, SinkFault};
+use std::alloc::Global;
 
 /// How many bytes a source may have.
 const SOURCE_LIMIT: usize = 1_048_576;
@@ -35,12 +34,7 @@ fn read_source<F: Files>(alloc: Global, files: &mut F, file: &str) -> Result<Vec
 }
 
 /// The report on a source's tested function.
-fn prepare(
-    alloc: Global,
-    source: &[u8],
-    entry: &str,
-    words: &RunWords,
-) -> Result<Report, Refusal>
+fn prepare(alloc: Global, source: &[u8], entry: &str, words: &RunWords) -> Result<Report, Refusal>
     requires size { length source.now ≤ 1048576 }
     requires steps { 201 ≤ (words.now).bounds.steps }
     requires runs { 1 ≤ (words.now).runs }
@@ -102,8 +96,13 @@ pub fn session<F: Files, K: Sink>(
     requires steps { 201 ≤ (words.now).bounds.steps }
     requires runs { 1 ≤ (words.now).runs }
     ensures ends { Ends (record {
-        held = F.held files.old; files_old = F.faults files.old; files_new = F.faults files.new;
-        out_old = K.written out.old; out_new = K.written out.new; faults_old = K.faults out.old; faults_new = K.faults out.new
+      held = F.held files.old;
+      files_old = F.faults files.old;
+      files_new = F.faults files.new;
+      out_old = K.written out.old;
+      out_new = K.written out.new;
+      faults_old = K.faults out.old;
+      faults_new = K.faults out.new;
     }) file.now entry.now (words.now).bounds (words.now).runs result }
     ensures held { F.held files.new ≡ F.held files.old }
 {

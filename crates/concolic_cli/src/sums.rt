@@ -6,10 +6,9 @@ ghost use Rattle.cc_base.specs.declared.ends.End.TheVariants.{Fault};
 ghost use Rattle.cc_model.specs.Source.{line_of};
 ghost use Rattle.concolic_cli.specs.Sums.{is_sum, sum_run, fit, ran, SumRun, end_of_summed};
 
-use std::alloc::Global;
-
 use cc_model::base::{End, FaultKind, Items, NoMemory, Outcome};
 use cc_model::{Expr, Token};
+use std::alloc::Global;
 
 /// What evaluating a sum comes to: its value, or the end of the run.
 #[derive(Clone, Copy, Debug)]

@@ -21,7 +21,7 @@ report_on-requires-clause-bytes c =
     let ran = c.in-Ok-run.ran in
     let is = is_run_of c.in-Ok.read.tokens.items c.deref.result.now c.args.words.now.bounds.depth c.depth.result c.in-Some.sum.now ran.path ran.end c.deref.ensures.value c.depth.ensures.value c.in-Ok-run.ensures.path c.in-Ok-run.ensures.end in
     (run_facts c.args.source.now c.args.entry.now c.in-Ok.read.tokens.items c.in-Ok.read.program c.args.words.now.bounds c.args.words.now.runs s.0 s.1 c.in-Some.sum.now ran.path ran.end
-        c.in-Ok.ensures.read s.2 s.3 c.requires.steps c.requires.runs is).2
+    c.in-Ok.ensures.read s.2 s.3 c.requires.steps c.requires.runs is).2
 
 pub report_on-requires-clause-in_time : goal.report_on-requires-clause-in_time
 report_on-requires-clause-in_time c =
@@ -29,7 +29,7 @@ report_on-requires-clause-in_time c =
     let ran = c.in-Ok-run.ran in
     let is = is_run_of c.in-Ok.read.tokens.items c.deref.result.now c.args.words.now.bounds.depth c.depth.result c.in-Some.sum.now ran.path ran.end c.deref.ensures.value c.depth.ensures.value c.in-Ok-run.ensures.path c.in-Ok-run.ensures.end in
     (run_facts c.args.source.now c.args.entry.now c.in-Ok.read.tokens.items c.in-Ok.read.program c.args.words.now.bounds c.args.words.now.runs s.0 s.1 c.in-Some.sum.now ran.path ran.end
-        c.in-Ok.ensures.read s.2 s.3 c.requires.steps c.requires.runs is).1
+    c.in-Ok.ensures.read s.2 s.3 c.requires.steps c.requires.runs is).1
 
 pub returns-in-Ok-report_on-clause-reports : goal.returns-in-Ok-report_on-clause-reports
 returns-in-Ok-report_on-clause-reports c =
@@ -37,4 +37,4 @@ returns-in-Ok-report_on-clause-reports c =
     let ran = c.in-Ok-run.ran in
     let is = is_run_of c.in-Ok.read.tokens.items c.deref.result.now c.args.words.now.bounds.depth c.depth.result c.in-Some.sum.now ran.path ran.end c.deref.ensures.value c.depth.ensures.value c.in-Ok-run.ensures.path c.in-Ok-run.ensures.end in
     reports_on c.args.source.now c.args.entry.now c.in-Ok.read.tokens.items c.in-Ok.read.program c.args.words.now.bounds c.args.words.now.runs s.0 s.1 c.in-Some.sum.now ran.path ran.end c.in-Ok-report_on.report
-        c.in-Ok.ensures.read s.2 s.3 c.requires.steps c.requires.runs is c.in-Ok-report_on.ensures.text c.in-Ok-report_on.ensures.verdict
+    c.in-Ok.ensures.read s.2 s.3 c.requires.steps c.requires.runs is c.in-Ok-report_on.ensures.text c.in-Ok-report_on.ensures.verdict

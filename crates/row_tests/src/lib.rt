@@ -1,0 +1,5 @@
+//! The worked rows of the tool, as tables over files and sinks in memory.
+#![tactic(auto)]
+
+#[cfg(test)]
+mod rows;
