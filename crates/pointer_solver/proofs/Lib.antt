@@ -1,0 +1,4 @@
+mod Trees
+mod Solved
+mod AtomSteps
+mod Marked

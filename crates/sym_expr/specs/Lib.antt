@@ -1,0 +1,4 @@
+pub mod Sums
+pub mod PlacesSeen
+pub mod TermsSeen
+pub mod AtomsSeen
