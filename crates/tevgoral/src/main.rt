@@ -3,10 +3,9 @@
 
 use cc_outside::{RealFiles, RealSink};
 use concolic_cli::concolic;
-use std::env;
-use std::io;
 use std::process::ExitCode;
 use std::rt::Env;
+use std::{env, io};
 
 /// The words of the command line, without the program's name.
 fn words(rt: &(impl Env + AllocGlobal)) -> io::Result<Vec<String>> {
