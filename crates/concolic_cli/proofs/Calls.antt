@@ -1,18 +1,17 @@
 -- What a call comes to, by its status.
-use Rattle.std.proofs.Common.{◌≡◌, ℕ, zero, suc, ◌+◌, ◌≤◌, ◌⊎◌, inl, inr, ⊎_elim, Bool, true, false, IsTrue, List, [], ◌++◌, length, Option, Some, None, refl, sym, ap, subst, ◌∙◌, arith, codes, if◌then◌else◌, nat_eq}
+use Rattle.std.proofs.Common.{◌≡◌, ℕ, ◌+◌, ◌≤◌, ◌⊎◌, inl, inr, ⊎_elim, Bool, true, false, List, [], ◌++◌, refl, sym, ap, subst, ◌∙◌, arith, codes, if◌then◌else◌, nat_eq}
 use Rattle.cc_model.specs.declared.commands.Command.{Command}
 use Rattle.cc_model.specs.declared.commands.Command.TheVariants.{Run}
 use Rattle.cc_model.specs.declared.commands.RunWords.{RunWords}
-use Rattle.cc_model.specs.Listing.{Listing, IsComplete, Counts, counts_of}
+use Rattle.cc_model.specs.Listing.{Listing, IsComplete}
 use Rattle.cc_model.specs.Report.{newline, total, has_fault, verdict_of}
 use Rattle.cc_model.specs.Source.{Refuses}
 use Rattle.cc_model.specs.Words.{Accepted, BadWord, run_words}
 use Rattle.cc_outside.specs.Faults.{Rose}
-use Rattle.cc_outside.specs.Held.{Held, file_of}
 use Rattle.concolic_cli.specs.declared.refusal.Refusal.{Refusal}
 use Rattle.concolic_cli.specs.declared.refusal.Refusal.TheVariants as refusal
-use Rattle.concolic_cli.specs.Concolic.{Call, Answered, bad, listed, refused, word_of, HasNoCommand, IsSession, Headline, ReportIsBegun, PartOfReport, nothing, part, SourceIsRefused, FileFault, FileIsRefused}
-use Rattle.concolic_cli.specs.Refusals.{bad_word_text, file_text, refusal_line, Says, IsAnswered}
+use Rattle.concolic_cli.specs.Concolic.{Call, Answered, bad, listed, refused, word_of, Headline, ReportIsBegun, PartOfReport, nothing, part, SourceIsRefused, FileFault, FileIsRefused}
+use Rattle.concolic_cli.specs.Refusals.{bad_word_text, file_text, Says, IsAnswered}
 use Rattle.concolic_cli.specs.Session.{ReadAs, Lists, Seen, Listed, ReportBegun, Stands, SourceRefused, FileRefused, Cause, SourceCause}
 use Rattle.concolic_cli.specs.Session as session
 use Rattle.concolic_cli.proofs.Forms.{form_of}

@@ -6,7 +6,7 @@ use Rattle.concolic_cli.specs.declared.refusal.Refusal.{Refusal}
 use Rattle.concolic_cli.specs.declared.refusal.Refusal.TheVariants as refused
 use Rattle.concolic_cli.specs.declared.report.Report.{Report}
 use Rattle.concolic_cli.specs.Lines.{text_of, ReportsOn}
-use Rattle.concolic_cli.specs.Session.{ReadAs, Lists, WriteCause, Seen, ReportBegun, Stands, part, Cause}
+use Rattle.concolic_cli.specs.Session.{ReadAs, Lists, WriteCause, Seen, ReportBegun, part, Cause}
 
 stands : (seen : Seen) (file entry : List ℕ) (b : Limits) (runs : ℕ) (bytes bytes' : List ℕ) (r : Report) → bytes' ≡ bytes → ReadAs seen.held file bytes → ReportsOn bytes' entry b runs r →
     WritesPart seen.out_old seen.out_new (text_of r) → ReportBegun seen file entry b runs

@@ -1,22 +1,21 @@
 -- The listing of the one path of a program that returns a sum.
-use Rattle.std.proofs.Common.{◌≡◌, ℕ, zero, suc, ◌+◌, ◌≤◌, ◌⊎◌, inl, inr, ⊎_elim, List, [], ◌∷◌, ◌++◌, length, map, Option, Some, None, refl, sym, ap, subst, ◌∙◌, arith, slice_get, All}
-use Rattle.cc_base.specs.declared.inputs.Input.{Input}
+use Rattle.std.proofs.Common.{◌≡◌, ℕ, ◌+◌, ◌≤◌, inl, inr, ⊎_elim, List, [], ◌∷◌, refl, sym, ap, subst, arith, All}
 use Rattle.cc_base.specs.declared.inputs.Test.{Test}
 use Rattle.cc_base.specs.Limits.{Limits}
 use Rattle.cc_base.specs.Outcomes.{HasByte}
-use Rattle.cc_base.specs.Paths.{Path, In, BeginsWith, Before, Pairwise}
+use Rattle.cc_base.specs.Paths.{Path, In}
 use Rattle.cc_model.specs.declared.tokens.Token.{Token}
 use Rattle.cc_model.specs.declared.trees.Expr.{Expr}
 use Rattle.cc_model.specs.declared.trees.Func as source
 use Rattle.cc_model.specs.declared.trees.Program as source_program
 use Rattle.cc_model.specs.Core.{Program, Cell}
-use Rattle.cc_model.specs.Canonical.{AreCells, IsCanonical, AllWithin, base_cell, base_input_of}
-use Rattle.cc_model.specs.Runs.{path_at, end_at, params_of, IsInput}
+use Rattle.cc_model.specs.Canonical.{IsCanonical, base_input_of}
+use Rattle.cc_model.specs.Runs.{params_of}
 use Rattle.cc_model.specs.Tested.{tested, Real}
-use Rattle.cc_model.specs.Listing.{Item, test_item, past_item, stray_item, spent_item, unrun_item, Listing, at_steps, IsComplete, tests, Listed, WasRun, ClosedAt, Begun, Sound, Enumerates}
+use Rattle.cc_model.specs.Listing.{Item, test_item, past_item, stray_item, spent_item, unrun_item, at_steps, WasRun, ClosedAt}
 use Rattle.cc_model.specs.Lexical.{line_at}
 use Rattle.cc_model.specs.Report.{report_text, verdict_of}
-use Rattle.cc_model.specs.Source.{IsProgram, program_of, line_of, offset_of, source_text, Refuses, lexical, not_yet}
+use Rattle.cc_model.specs.Source.{program_of, line_of, offset_of, source_text, Refuses, lexical, not_yet}
 use Rattle.cc_base.specs.declared.ends.End.{End}
 use Rattle.concolic_cli.specs.declared.refusal.Refusal.{Refusal}
 use Rattle.concolic_cli.specs.declared.refusal.Refusal.TheVariants as refused

@@ -1,20 +1,18 @@
 -- Each promise of a call, from what it comes to.
-use Rattle.std.proofs.Common.{◌≡◌, ℕ, zero, suc, ◌<◌, ◌≤◌, ◌⊎◌, inl, inr, ⊎_elim, List, [], ◌∷◌, ◌++◌, length, Option, Some, None, Ok, Err, refl, sym, ap, subst, ◌∙◌, arith, codes, slice_get, ◌↔◌, Bool}
-use Rattle.cc_model.specs.declared.commands.Command.{Command}
+use Rattle.std.proofs.Common.{◌≡◌, ℕ, zero, suc, ◌<◌, ◌≤◌, ◌⊎◌, inl, inr, ⊎_elim, List, [], ◌∷◌, ◌++◌, length, Option, Some, None, sym, ap, subst, ◌∙◌, arith, codes, slice_get, ◌↔◌, Bool}
 use Rattle.cc_model.specs.declared.commands.Command.TheVariants.{Run}
 use Rattle.cc_model.specs.declared.commands.RunWords.{RunWords}
 use Rattle.cc_model.specs.declared.tokens.Token.{Token}
 use Rattle.cc_model.specs.declared.trees.Func as source
 use Rattle.cc_model.specs.declared.trees.Program as source_program
 use Rattle.cc_model.specs.Core.{Program}
-use Rattle.cc_model.specs.Lexical.{tokens_of}
 use Rattle.cc_model.specs.Reads.{Reads, Accepts, shallow}
 use Rattle.cc_model.specs.Report.{newline}
 use Rattle.cc_model.specs.Source.{IsProgram, Refuses, lexical, not_yet, no_entry, HasNoEntry, functions_of, text_at}
 use Rattle.cc_model.specs.Words.{Accepted, BadWord}
 use Rattle.cc_outside.specs.Faults.{Rose}
 use Rattle.cc_outside.specs.Held.{Held, file_of}
-use Rattle.concolic_cli.specs.Concolic.{Call, Answered, word_of, HasNoCommand, IsSource, IsSession, Headline, ReportIsBegun, PartOfReport, nothing, part, SourceIsRefused, FileFault, FileIsRefused}
+use Rattle.concolic_cli.specs.Concolic.{Call, word_of, HasNoCommand, IsSource, IsSession, Headline, PartOfReport, nothing, part, SourceIsRefused, FileFault, FileIsRefused}
 use Rattle.concolic_cli.specs.Refusals.{bad_word_text, Says}
 use Rattle.concolic_cli.specs.Session.{ReadAs}
 use Rattle.concolic_cli.proofs.Forms.{accepted_once}

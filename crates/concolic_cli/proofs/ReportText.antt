@@ -1,11 +1,11 @@
 -- The text of the report on one test.
-use Rattle.std.proofs.Common.{◌≡◌, ℕ, zero, ◌+◌, List, [], ◌∷◌, ◌++◌, refl, sym, ap, subst, ◌∙◌, nat_eq, if◌then◌else◌, append_assoc, append-nil, codes}
+use Rattle.std.proofs.Common.{◌≡◌, ℕ, ◌+◌, List, [], ◌++◌, sym, ap, ◌∙◌, nat_eq, if◌then◌else◌, append_assoc, append-nil, codes}
 use Rattle.std.specs.Fmt.{decimal}
 use Rattle.cc_base.specs.declared.ends.End.{End}
 use Rattle.cc_base.specs.Limits.{Limits}
 use Rattle.cc_base.specs.Paths.{Path}
 use Rattle.cc_model.specs.Listing.{test_item, at_steps}
-use Rattle.cc_model.specs.Report.{bounds_line, item_line, newline, report_text, complete_line, last_line}
+use Rattle.cc_model.specs.Report.{bounds_line, item_line, newline, report_text, last_line}
 use Rattle.concolic_cli.specs.OneTest.{test_of, one_test}
 
 last_is : (n : ℕ) → n ≡ 0 → (x y : List ℕ) → (if nat_eq (0 + 0 + (n + 0) + 0 + 0) 0 then x else y) ≡ x

@@ -1,9 +1,8 @@
 -- Programs that return a sum: every input takes the one path of the sum.
-use Rattle.std.proofs.Common.{◌≡◌, ℕ, zero, suc, ◌+◌, ◌-◌, ◌≤◌, ◌<◌, ℤ, pos, Bool, true, false, List, [], ◌∷◌, ◌++◌, length, map, Option, Some, None, refl, sym, ap, subst, ◌∙◌, arith, slice_get, append-nil, All}
+use Rattle.std.proofs.Common.{◌≡◌, ℕ, zero, suc, ◌+◌, ◌≤◌, true, List, [], ◌∷◌, ◌++◌, length, map, Option, Some, refl, sym, ap, subst, ◌∙◌, arith, slice_get, append-nil, All}
 use Rattle.std.proofs.lemmas.Bool.{leb-true}
 use Rattle.std.proofs.lemmas.Option.{slice_get_past}
 use Rattle.cc_base.specs.declared.outcomes.Outcome.{Outcome}
-use Rattle.cc_base.specs.declared.ends.End.{End}
 use Rattle.cc_base.specs.declared.ends.End.TheVariants.{Return}
 use Rattle.cc_base.specs.declared.inputs.Input.{Input}
 use Rattle.cc_base.specs.Limits.{Limits}
@@ -13,9 +12,8 @@ use Rattle.cc_model.specs.declared.tokens.Kind.{Kind}
 use Rattle.cc_model.specs.declared.tokens.Token.{Token}
 use Rattle.cc_model.specs.Core as core
 use Rattle.cc_model.specs.Core.{Val, Cell, Func, Parts, Program}
-use Rattle.cc_model.specs.Meaning.{Fixed, Entry, State, Result, ok, over, Ran, Flow, returned, prepend, go_on, ◌>>=◌, ◌>>◌, pure, stop, step_at, step, value, exec, exec_parts, after_part, returns, main, main_in, calls}
+use Rattle.cc_model.specs.Meaning.{Fixed, Entry, Result, Ran, returned, prepend, go_on, ◌>>=◌, ◌>>◌, pure, stop, step_at, step, value, exec, exec_parts, after_part, returns, main, main_in, calls}
 use Rattle.cc_model.specs.Plain.{plain, Value, Data}
-use Rattle.cc_model.specs.declared.tokens.Keyword.TheVariants as keyword
 use Rattle.cc_model.specs.declared.trees.Expr.{Expr}
 use Rattle.cc_model.specs.declared.trees.Stmt.TheVariants as stmt
 use Rattle.cc_model.specs.declared.trees.Part.TheVariants as part
@@ -25,9 +23,8 @@ use Rattle.cc_model.specs.declared.trees.Program as source_program
 use Rattle.cc_model.specs.Reads.{Spot, start, passed, opened, back, closed, Operand, number, Sums, more, Statement, Block, braces, NoParams, Function, Items, Accepts, shallow, kind_at, Reads}
 use Rattle.cc_model.specs.Reads as reads
 use Rattle.cc_model.specs.Resolve.{value_of, func_of, body_of, parts_of, param_of}
-use Rattle.cc_model.specs.Source.{functions_of, no_facts, program_of, line_of, IsProgram}
+use Rattle.cc_model.specs.Source.{functions_of, no_facts, program_of, line_of}
 use Rattle.cc_model.specs.Listing.{at_steps}
-use Rattle.cc_model.specs.Canonical.{IsCanonical}
 use Rattle.cc_model.specs.Runs.{path_of, end_of, run, run_of, begin_of, fixed_of, path_at, end_at, params_of, params_of_func}
 use Rattle.cc_model.proofs.Resolved.{stmt_return, piece_stmt}
 use Rattle.concolic_cli.specs.declared.sums.Summed.{Summed}
@@ -35,7 +32,7 @@ use Rattle.concolic_cli.specs.declared.sums.Summed.TheVariants as summed
 use Rattle.concolic_cli.specs.Programs.{Returns}
 use Rattle.concolic_cli.specs.Sums.{SumRun, is_sum, sum_run, end_of_summed}
 use Rattle.concolic_cli.proofs.SumBytes.{summing}
-use Rattle.concolic_cli.proofs.SumRuns.{St, state, Handler, Comes, Evaluated, Shown, sums_shown}
+use Rattle.concolic_cli.proofs.SumRuns.{St, state, Handler, Comes, Evaluated, sums_shown}
 
 -- a function that returns a value of this expression
 abbrev returning : Cell → Val → Func

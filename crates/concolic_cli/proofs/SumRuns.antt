@@ -1,27 +1,24 @@
 -- The run of a function that returns a sum is the run that the definitions give.
-use Rattle.std.proofs.Common.{◌≡◌, ℕ, zero, suc, ◌+◌, ◌-◌, ◌≤◌, ◌<◌, ℤ, pos, ◌+ℤ◌, ◌-ℤ◌, Bool, true, false, ◌&&◌, List, [], ◌∷◌, ◌++◌, length, Option, Some, None, refl, sym, ap, subst, ◌∙◌, arith, nat_lt, if◌then◌else◌, slice_get, length-append, append_assoc, append-nil}
+use Rattle.std.proofs.Common.{◌≡◌, ℕ, zero, suc, ◌+◌, ◌≤◌, ◌<◌, ℤ, ◌+ℤ◌, ◌-ℤ◌, Bool, true, ◌&&◌, List, [], ◌∷◌, ◌++◌, length, Option, Some, refl, sym, ap, subst, ◌∙◌, arith, if◌then◌else◌, length-append, append_assoc, append-nil}
 use Rattle.std.proofs.lemmas.Bool.{le-ltb, lt-ltb}
 use Rattle.cc_base.specs.declared.outcomes.Outcome.{Outcome}
 use Rattle.cc_base.specs.declared.outcomes.Outcome.TheVariants.{Zero, High, Low, Plain, False, True, Object}
 use Rattle.cc_base.specs.declared.ends.FaultKind.TheVariants.{Overflow}
-use Rattle.cc_base.specs.declared.ends.End.{End}
-use Rattle.cc_base.specs.declared.ends.End.TheVariants.{Return, Cut, Fault, Steps}
+use Rattle.cc_base.specs.declared.ends.End.TheVariants.{Cut, Fault}
 use Rattle.cc_base.specs.Paths.{Path}
 use Rattle.cc_model.specs.declared.checked.SiteKind.TheVariants as site
 use Rattle.cc_model.specs.Core as core
 use Rattle.cc_model.specs.Core.{Val, Op}
-use Rattle.cc_model.specs.Domain.{Act, act_arith, Acted}
-use Rattle.cc_model.specs.Meaning.{Fixed, Entry, State, Seen, Result, ok, over, Ran, prepend, go_on, ◌>>=◌, ◌>>◌, pure, stop, step_at, step, event_at, event, if_plain, checked, fits, binary, value}
-use Rattle.cc_model.specs.Plain as base
+use Rattle.cc_model.specs.Meaning.{Fixed, Entry, State, Result, ok, over, Ran, prepend, go_on, ◌>>=◌, ◌>>◌, pure, stop, step_at, step, event_at, event, if_plain, checked, fits, binary, value}
 use Rattle.cc_model.specs.Plain.{plain, Value, num, Data, apply, fitting, fit_of, number_of, act, acted}
 use Rattle.cc_model.specs.Runs.{path_of}
 use Rattle.cc_model.specs.declared.tokens.Kind.{Kind}
 use Rattle.cc_model.specs.declared.tokens.Punct.{Punct}
 use Rattle.cc_model.specs.declared.tokens.Punct.TheVariants as punct
-use Rattle.cc_model.specs.declared.trees.Expr.{Expr, fold-Expr, fold-roll-Expr}
+use Rattle.cc_model.specs.declared.trees.Expr.{Expr, fold-roll-Expr}
 use Rattle.cc_model.specs.declared.trees.Expr.TheVariants as tree
 use Rattle.cc_model.specs.declared.trees.Expr.TheOpen as level
-use Rattle.cc_model.specs.Reads.{Spot, Maker, Operand, number, Sums, one, more, sum_sign}
+use Rattle.cc_model.specs.Reads.{Spot, Maker, number, Sums, one, more, sum_sign}
 use Rattle.cc_model.specs.Resolve.{value_of}
 use Rattle.cc_model.specs.Listing.{at_steps}
 use Rattle.cc_model.specs.Source.{no_facts}

@@ -1,5 +1,5 @@
 -- What stands of three lines where the second or the third fails.
-use Rattle.std.proofs.Common.{◌≡◌, ℕ, List, ◌++◌, Option, sym, ap, subst, ◌∙◌}
+use Rattle.std.proofs.Common.{◌≡◌, ℕ, List, ◌++◌, Option, ap, subst, ◌∙◌}
 use Rattle.cc_outside.specs.Told.{appended, WritesPart}
 use Rattle.cc_outside.proofs.ToldLemmas.{WritesPart-first, WritesPart-after}
 

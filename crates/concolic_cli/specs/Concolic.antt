@@ -1,12 +1,12 @@
 -- What the tool promises of a call.
-use Rattle.std.specs.Prelude.{ℕ, ◌-◌, ◌≡◌, ◌<◌, ◌≤◌, ◌⊎◌, ◌↔◌, List, [], ◌++◌, length, Option, Some, None, slice_get, codes}
+use Rattle.std.specs.Prelude.{ℕ, ◌-◌, ◌≡◌, ◌<◌, ◌≤◌, ◌⊎◌, List, [], ◌++◌, length, Option, Some, None, slice_get, codes}
 use Rattle.cc_model.specs.declared.commands.Command.{Command}
 use Rattle.cc_model.specs.declared.commands.Command.TheVariants.{Run}
 use Rattle.cc_model.specs.declared.commands.RunWords.{RunWords}
 use Rattle.cc_model.specs.Core.{Program}
 use Rattle.cc_model.specs.Listing.{Listing}
 use Rattle.cc_model.specs.Report.{newline, report_text, verdict_of}
-use Rattle.cc_model.specs.Source.{IsProgram, Refuses}
+use Rattle.cc_model.specs.Source.{Refuses}
 use Rattle.cc_model.specs.Words.{Accepted, BadWord}
 use Rattle.cc_outside.specs.Faults.{Rose}
 use Rattle.cc_outside.specs.Held.{Held, file_of}

@@ -5,7 +5,7 @@ use Rattle.cc_base.specs.declared.inputs.Input.{Input}
 use Rattle.cc_base.specs.declared.inputs.Test.{Test}
 use Rattle.cc_base.specs.Limits.{Limits}
 use Rattle.cc_base.specs.Paths.{Path}
-use Rattle.cc_model.specs.Listing.{Item, test_item, Listing}
+use Rattle.cc_model.specs.Listing.{test_item, Listing}
 
 abbrev pub no_input : Input
 no_input = record { cells = []; stream = [] }

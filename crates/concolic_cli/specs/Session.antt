@@ -1,6 +1,5 @@
 -- What a session comes to.
-use Rattle.std.specs.Prelude.{ℕ, ◌≡◌, ◌<◌, ◌≤◌, ◌⊎◌, List, [], ◌∷◌, ◌++◌, length, Option, Some, None, Result, Ok, Err}
-use Rattle.cc_base.specs.declared.inputs.Input.{Input}
+use Rattle.std.specs.Prelude.{ℕ, ◌≡◌, ◌<◌, ◌≤◌, List, length, Option, Some, None, Result, Ok, Err}
 use Rattle.cc_base.specs.Limits.{Limits}
 use Rattle.cc_model.specs.Core.{Program}
 use Rattle.cc_model.specs.Tested.{tested}
