@@ -1,9 +1,7 @@
 -- Values of the places of an atom decide whether it holds.
-use Rattle.std.proofs.Common.{◌≡◌, ◌≢◌, ◌∙◌, ◌⊎◌, inl, inr, sym, ap, ap₂, subst, refl, ℕ, ℤ, pos, ◌+ℤ◌, ◌*ℤ◌, ◌≤ℤ◌, Option, IsSome, unwrap_or, List, [], ◌∷◌, ◌++◌, length, map}
+use Rattle.std.proofs.Common.{◌≡◌, ◌≢◌, ◌∙◌, inl, inr, sym, ap, ap₂, subst, refl, ℕ, ℤ, pos, ◌+ℤ◌, ◌*ℤ◌, ◌≤ℤ◌, Option, IsSome, unwrap_or, List, [], ◌∷◌, ◌++◌, map}
 use Rattle.cc_base.specs.declared.forms.Multiple.{Multiple}
-use Rattle.cc_base.specs.declared.inputs.Input.{Input}
 use Rattle.cc_base.specs.Forms.{Form, Side, nothing, at, Atom, at_most_zero, is_zero, not_zero, same, differ}
-use Rattle.cc_base.specs.Places.{Placed, ParentsFirst, at_place}
 use Rattle.cc_base.specs.Holds.{total, value_of_form, value_of_side, Compares, AllValued, places_of_side, places_of_atom, or_zero, Holds, Meets}
 use Rattle.cc_base.specs.Paths.{In}
 
@@ -49,9 +47,9 @@ valued_same f g (p ∷ l) h v = (subst (λ (o : Option ℤ). IsSome o) (h p (inl
 -- the values of an atom's places decide whether it holds
 pub Holds-same : (f g : ℕ → Option ℤ) (a : Atom) → Agree f g (places_of_atom a) → Holds f a → Holds g a
 Holds-same f g a h s = record {
-    valued = valued_same f g (places_of_atom a) h s.valued;
-    compares = Compares-same (or_zero f) (or_zero g) a (λ p i. ap (λ (o : Option ℤ). unwrap_or o (pos 0)) (h p i)) s.compares
-  }
+  valued = valued_same f g (places_of_atom a) h s.valued;
+  compares = Compares-same (or_zero f) (or_zero g) a (λ p i. ap (λ (o : Option ℤ). unwrap_or o (pos 0)) (h p i)) s.compares;
+}
 
 -- a list's two parts hold together
 pub Meets-append : (f : ℕ → Option ℤ) (l m : List Atom) → Meets f l → Meets f m → Meets f (l ++ m)
