@@ -119,6 +119,13 @@ fn reports(rt: HostRuntime) -> Result<(), Fail> {
             1,
         ),
         (
+            "int f(void) { return 2147483646 + 1 + 1; }",
+            "run t.c f 10 -dfs 9",
+            DEPTH_9,
+            "test .+ overflow@1 ~\n",
+            1,
+        ),
+        (
             "int f(void) { return 1 + 2 - 3; }",
             "run t.c f 10 -dfs 1",
             DEPTH_1,
