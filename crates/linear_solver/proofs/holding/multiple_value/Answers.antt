@@ -1,0 +1,15 @@
+use Rattle.std.proofs.Common.{◌≡◌, ◌∙◌, sym, ap, ap₂, subst, rules, SFits, FitsSigned, ℤ, pos, ◌*ℤ◌, ◌≤◌, ◌^◌, unsigned_abs, to_z, of_z, arith}
+use Rattle.std.proofs.lemmas.Int.{to_z-of_z, ints}
+use mir.Syntax.{w32, w128}
+use Rattle.linear_solver.proofs.Evaluation.{term_bound, unwrapped, value_small}
+use Rattle.linear_solver.proofs.holding.multiple_value.Goals as goal
+
+pub returns-clause-value : goal.returns-clause-value
+returns-clause-value c =
+    let f : SFits w128 c.args.t.coefficient = search rules in let g : SFits w32 c.value_at.result = search rules in
+    unwrapped c.args.t.coefficient c.value_at.result f g c.requires ∙ ap (λ (z : ℤ). c.args.t.coefficient *ℤ z) c.value_at.ensures
+
+pub returns-clause-bound : goal.returns-clause-bound
+returns-clause-bound c =
+    let f : SFits w128 c.args.t.coefficient = search rules in let g : SFits w32 c.value_at.result = search rules in
+    subst (λ (z : ℤ). unsigned_abs z ≤ 2 ^ 75) (sym (unwrapped c.args.t.coefficient c.value_at.result f g c.requires)) (term_bound c.args.t.coefficient c.value_at.result c.requires (value_small c.value_at.result g))

@@ -1,0 +1,13 @@
+pub mod Seen
+pub mod Box
+pub mod Counts
+pub mod Ordered
+pub mod Sides
+pub mod Ranks
+pub mod Trail
+pub mod Atoms
+pub mod Spans
+pub mod Settled
+pub mod Parts
+pub mod Answers
+pub mod Standing
