@@ -1,4 +1,6 @@
 -- Inequalities between sums of terms and numbers, and what they say of values for the places.
+-- Dividing an inequality by its coefficients' common divisor and rounding its bound down is the tightening of the Omega test (Pugh, 1991).
+-- The rest of a normal form is this project's own.
 use Rattle.std.specs.Prelude.{ℕ, zero, suc, ◌/◌, ◌%◌, ℤ, pos, negsuc, ◌+ℤ◌, ◌*ℤ◌, ◌≤ℤ◌, Bool, true, false, List, [], ◌∷◌, map, nat_eq, nat_lt, unsigned_abs, if◌then◌else◌}
 -- a multiple of a place
 pub use Rattle.cc_base.specs.declared.forms.Multiple.{Multiple}

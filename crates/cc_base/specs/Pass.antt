@@ -1,4 +1,6 @@
 -- A pass over a list of inequalities: it takes the places out of it, one after another.
+-- Pairing lower with upper ones is Fourier-Motzkin elimination; the real and the dark shadow are those of the Omega test (Pugh, 1991).
+-- Which place goes first, when a pass ends open, and its cost are this project's own.
 use Rattle.std.specs.Prelude.{ℕ, zero, suc, ◌+◌, ◌-◌, ◌*◌, ◌^◌, ℤ, pos, negsuc, ◌+ℤ◌, ◌-ℤ◌, ◌*ℤ◌, Bool, true, false, not, ◌&&◌, ◌||◌, List, [], ◌∷◌, ◌++◌, length, max, nat_eq, nat_lt, int_lt, int_le, unsigned_abs, if◌then◌else◌}
 use Rattle.cc_base.specs.Inequality.{Multiple, Inequality, normal, scaled, merge, coefficient}
 -- real or dark, and how a pass ends

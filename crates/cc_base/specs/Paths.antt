@@ -1,4 +1,4 @@
--- Paths, and their byte order.
+-- Paths, and their byte order. They are this project's own.
 use Rattle.std.specs.Prelude.{ℕ, suc, ◌<◌, ◌≡◌, ◌⊎◌, List, [], ◌∷◌, ◌++◌, map, nat_eq, codes, if◌then◌else◌}
 use Rattle.cc_base.specs.declared.outcomes.Outcome.{Outcome}
 use Rattle.cc_base.specs.Outcomes.{byte_of}

@@ -1,4 +1,4 @@
--- What a solver is to answer.
+-- What a solver is to answer. The rules are this project's own.
 use Rattle.std.specs.Prelude.{ℕ, ◌<◌, ◌≤◌, ℤ, ◌⊎◌, List, [], ◌∷◌}
 use Rattle.cc_base.specs.Groups.{Atom, HoldAll, Between, HasValues, groups, places_in}
 use Rattle.cc_base.specs.Need.{need}

@@ -1,4 +1,5 @@
--- The values that a Dark pass finds, backwards.
+-- The values that a dark pass finds, backwards: a place gets the greatest of its lower bounds, or the least upper one where it has no lower.
+-- That they meet the list is the theorem on the dark shadow of the Omega test (Pugh, 1991).
 use Rattle.std.specs.Prelude.{ℕ, zero, suc, ℤ, pos, ◌-ℤ◌, neg_ℤ, List, [], ◌∷◌, nat_eq, int_le, if◌then◌else◌}
 use Rattle.cc_base.specs.Inequality.{Inequality, total, floor, coefficient}
 use Rattle.cc_base.specs.Pass.{Mode, ended, going, ready, lowers, uppers, below, above, eliminate}
