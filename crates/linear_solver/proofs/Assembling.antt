@@ -1,18 +1,14 @@
 -- The answers of the groups make the answer of the list.
-use Rattle.std.proofs.Common.{◌≡◌, ◌≢◌, ◌∙◌, sym, ap, ap₂, subst, refl, arith, ℕ, zero, suc, ◌+◌, ◌<◌, ◌≤◌, Bool, true, false, ◌||◌, ◌⊎◌, inl, inr, nat_eq, List, [], ◌∷◌, ◌++◌, length, take, drop, get_or, append_assoc, append-nil, Option, Some, None, ℤ, pos, ◌≤ℤ◌, if◌then◌else◌}
-use Rattle.std.proofs.lemmas.List.{take_more, take_all, drop_more, take-append-drop, get_or_past}
-use borrow.Author.Tests.{eqb-true, eq-eqb}
-use Rattle.cc_base.specs.declared.forms.Multiple.{Multiple}
-use Rattle.cc_base.specs.Groups.{Form, Atom, Holds, HoldAll, Between, HasValues, form_of, contains, put, put_all, named, places_in, shares, touching, apart, parts, atoms_on, placeless, groups_of, groups}
+use Rattle.std.proofs.Common.{◌≡◌, ◌∙◌, sym, ap, subst, refl, arith, ℕ, ◌<◌, Bool, true, false, ◌⊎◌, inl, inr, nat_eq, List, [], ◌∷◌, ◌++◌, length, get_or, Option, Some, None, ℤ, ◌≤ℤ◌, if◌then◌else◌}
+use Rattle.cc_base.specs.Groups.{Atom, form_of, contains, put_all, named, places_in, shares, touching, apart, parts, atoms_on, groups_of, groups}
 use Rattle.cc_base.specs.Need.{need}
-use Rattle.cc_base.specs.Solve.{Refuted, SomeRefuted, SomeBeyond, Right, sat, unsat, spent}
-use Rattle.linear_solver.specs.Answers.{Advanced, Below, BelowAll, HasNumber, Given}
+use Rattle.cc_base.specs.Solve.{Refuted, SomeRefuted, SomeBeyond, Right, sat, spent}
+use Rattle.linear_solver.specs.Answers.{HasNumber}
 use Rattle.linear_solver.specs.Parts.{answered, number_of, Wrote}
 use Rattle.linear_solver.specs.Standing.{OutOf, Member, Good, AllGood, Stands}
 use Rattle.linear_solver.proofs.Integers.{bool_cases}
-use Rattle.linear_solver.proofs.Parting.{In, Disjoint, Inside, AllInside, AllHold, parts_disjoint, parts_cover, inside_shared, inside_member, groups_hold, out_member, shares_of, all_out, all_first, all_second, put_out, put_new, put_old, not_none}
+use Rattle.linear_solver.proofs.Parting.{In, Disjoint, AllInside, AllHold, parts_cover, inside_shared, inside_member, groups_hold, shares_of, all_out, all_first, all_second}
 use Rattle.linear_solver.proofs.Settling.{same_places, between_all, between_at}
-use Rattle.linear_solver.proofs.Tidied.{or_true}
 
 -- ---- lists with one more
 

@@ -1,9 +1,9 @@
 -- Each point of the box has a number.
-use Rattle.std.proofs.Common.{◌≡◌, ◌∙◌, sym, ap, ap₂, subst, refl, arith, ℕ, zero, suc, ◌+◌, ◌*◌, ◌/◌, ◌%◌, ◌^◌, ◌<◌, ◌≤◌, ℤ, pos, negsuc, ◌+ℤ◌, ◌-ℤ◌, ◌≤ℤ◌, unsigned_abs, Bool, true, false, ◌||◌, ◌⊎◌, inl, inr, nat_eq, List, [], ◌∷◌, length, if◌then◌else◌}
+use Rattle.std.proofs.Common.{◌≡◌, ◌∙◌, sym, ap, subst, arith, ℕ, suc, ◌+◌, ◌*◌, ◌/◌, ◌%◌, ◌^◌, ◌<◌, ◌≤◌, ℤ, pos, ◌+ℤ◌, ◌-ℤ◌, ◌≤ℤ◌, unsigned_abs, Bool, inl, inr, nat_eq, List, [], ◌∷◌, length, if◌then◌else◌}
 use Rattle.std.proofs.lemmas.Int.{ints}
 use native.Mathlib.Nat.{add-mul-div_left, add-mul-mod_self_left, pow-zero, pow-succ', mul-le-mul_left, mod-eq_of_lt, div-eq_of_lt}
 use borrow.Author.Tests.{eqb-true, eq-eqb}
-use Rattle.cc_base.specs.Witness.{changed, origin}
+use Rattle.cc_base.specs.Witness.{changed}
 use Rattle.cc_base.specs.Groups.{Between, contains}
 use Rattle.cc_base.specs.Need.{width}
 use Rattle.linear_solver.specs.Box.{decoded}

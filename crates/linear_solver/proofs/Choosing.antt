@@ -1,8 +1,7 @@
 -- The counter over the passes of a choice.
-use Rattle.std.proofs.Common.{◌≡◌, ◌∙◌, sym, ap, ap₂, subst, refl, arith, ℕ, zero, suc, ◌<◌, ◌≤◌, ◌+◌, Bool, true, false, ◌⊎◌, inl, inr, nat_lt, ℤ, pos, negsuc, List, [], ◌∷◌, length, if◌then◌else◌}
+use Rattle.std.proofs.Common.{◌≡◌, ◌∙◌, sym, ap, ap₂, subst, refl, arith, ℕ, suc, ◌<◌, ◌≤◌, ◌+◌, Bool, true, false, inl, inr, nat_lt, ℤ, pos, negsuc, List, [], ◌∷◌, length, if◌then◌else◌}
 use Rattle.cc_base.specs.Inequality.{Inequality, MeetsAll}
 use Rattle.cc_base.specs.Pass.{Passed, pass}
-use Rattle.cc_base.specs.declared.passes.Mode.{Mode}
 use Rattle.cc_base.specs.declared.passes.PassEnd.{PassEnd}
 use Rattle.cc_base.specs.declared.passes.Mode.TheVariants.{Real, Dark}
 use Rattle.cc_base.specs.declared.passes.PassEnd.TheVariants.{Open, Empty, Full}
@@ -14,7 +13,7 @@ use Rattle.linear_solver.specs.Trail.{trail_of}
 use Rattle.linear_solver.proofs.Counting.{unwound_trail}
 use Rattle.linear_solver.proofs.Eliminated.{at_most_meets, at_least_meets, below_zero, above_zero}
 use Rattle.cc_base.specs.Need.{Tried, found, closed, open_choice, after, after_open, by_dark, one_choice, tried, elimination, first_list, disequalities, at_most, at_least}
-use Rattle.linear_solver.specs.Seen.{at_places, Count, over, done, counted}
+use Rattle.linear_solver.specs.Seen.{at_places, over, done, counted}
 use Rattle.linear_solver.specs.Counts.{TriedCount, beyond, within, tried_count, cost_of, opened, FoundMeets}
 use Rattle.linear_solver.proofs.Integers.{bool_cases}
 use Rattle.linear_solver.proofs.Passes.{dark_pass}

@@ -1,12 +1,12 @@
 -- The counter of a pass.
-use Rattle.std.proofs.Common.{◌≡◌, ◌∙◌, sym, ap, ap₂, subst, refl, arith, ℕ, zero, suc, ◌<◌, ◌≤◌, ◌+◌, ◌-◌, Bool, true, false, nat_lt, List, [], ◌∷◌, ◌++◌, ℤ, pos, length, map, if◌then◌else◌}
+use Rattle.std.proofs.Common.{◌≡◌, ◌∙◌, sym, ap, ap₂, refl, arith, ℕ, zero, suc, ◌<◌, ◌≤◌, ◌+◌, ◌-◌, Bool, true, false, nat_lt, List, [], ◌∷◌, ℤ, length, if◌then◌else◌}
 use Rattle.cc_base.specs.Inequality.{Inequality}
 use Rattle.cc_base.specs.Pass.{Ready, ended, going, ready, Passed, costing, pairs, eliminate, turns, pass}
 use Rattle.cc_base.specs.declared.passes.Mode.{Mode}
 use Rattle.cc_base.specs.declared.passes.PassEnd.{PassEnd}
 use Rattle.cc_base.specs.declared.passes.PassEnd.TheVariants.{Open}
 use Rattle.cc_base.specs.Witness.{witness, origin, restored, unwound, Turn}
-use Rattle.linear_solver.specs.Seen.{Count, over, done, counted}
+use Rattle.linear_solver.specs.Seen.{over, done, counted}
 use Rattle.linear_solver.specs.Ordered.{SafeAll}
 use Rattle.linear_solver.specs.Trail.{trail_of, Sound}
 use Rattle.linear_solver.proofs.Pairing.{narrow_going, safe_eliminate}

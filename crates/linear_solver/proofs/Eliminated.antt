@@ -1,10 +1,8 @@
 -- Elimination is right where it decides.
-use Rattle.std.proofs.Common.{◌≡◌, ◌≢◌, ℕ, zero, suc, ◌+◌, ◌*◌, ℤ, pos, negsuc, neg_ℤ, ◌+ℤ◌, ◌-ℤ◌, ◌*ℤ◌, ◌≤ℤ◌, ◌<ℤ◌, int_le, Bool, true, false, ◌⊎◌, ◌↔◌, inl, inr, List, [], ◌∷◌, ◌++◌, length, refl, sym, ap, ◌∙◌, subst, arith}
+use Rattle.std.proofs.Common.{◌≡◌, ◌≢◌, ℕ, zero, suc, ◌+◌, ℤ, pos, negsuc, ◌*ℤ◌, ◌≤ℤ◌, ◌⊎◌, ◌↔◌, inl, inr, List, [], ◌∷◌, ◌++◌, length, refl, sym, ap, arith}
 use Rattle.std.proofs.lemmas.Int.{ints}
 use Rattle.cc_base.specs.Inequality.{Inequality, total, Meets, MeetsAll, scaled}
-use Rattle.cc_base.specs.declared.forms.Multiple.{Multiple}
 use Rattle.cc_base.specs.Pass.{Passed, pass}
-use Rattle.cc_base.specs.declared.passes.Mode.{Mode}
 use Rattle.cc_base.specs.declared.passes.PassEnd.{PassEnd}
 use Rattle.cc_base.specs.declared.passes.Mode.TheVariants.{Real, Dark}
 use Rattle.cc_base.specs.declared.passes.PassEnd.TheVariants.{Open, Empty, Full}
@@ -12,7 +10,6 @@ use Rattle.cc_base.specs.Witness.{witness}
 use Rattle.cc_base.specs.Groups.{Form, Atom, at_most_zero, is_zero, not_zero, same, differ, value, Holds, HoldAll, Between, places_in, HasValues}
 use Rattle.cc_base.specs.Need.{at_most, at_least, bounds, written, all_written, first_list, disequality, disequalities, Tried, found, closed, open_choice, after, after_open, by_dark, one_choice, tried, elimination}
 use Rattle.linear_solver.specs.Atoms.{Apart}
-use Rattle.linear_solver.proofs.Integers.{bool_cases}
 use Rattle.linear_solver.proofs.Totals.{total_scaled}
 use Rattle.linear_solver.proofs.Taken.{meets_append}
 use Rattle.linear_solver.proofs.Passes.{real_pass, dark_pass}

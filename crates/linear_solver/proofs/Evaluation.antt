@@ -1,7 +1,7 @@
 -- The steps of finding values backwards.
-use Rattle.std.proofs.Common.{◌≡◌, ◌≢◌, ◌∙◌, sym, ap, ap₂, subst, refl, arith, ℕ, zero, suc, ◌+◌, ◌-◌, ◌*◌, ◌^◌, ◌<◌, ◌≤◌, Bool, true, false, ◌⊎◌, inl, inr, nat_eq, int_le, List, [], ◌∷◌, ◌++◌, length, map, drop, take, get_or, set, replicate, All, Option, Some, None, ℤ, pos, negsuc, neg_ℤ, ◌+ℤ◌, ◌-ℤ◌, ◌*ℤ◌, ◌≤ℤ◌, ◌<ℤ◌, unsigned_abs, if◌then◌else◌, SFits, FitsSigned, to_z, of_z}
-use Rattle.std.proofs.lemmas.List.{drop_more, drop_all, get_or_past, get_or-set_same, get_or-set_other, get_or_append_left, get_or-append_right}
-use Rattle.std.proofs.lemmas.Int.{ints, to_z-of_z, to_z_pos, unsigned_abs-mul}
+use Rattle.std.proofs.Common.{◌≡◌, ◌∙◌, sym, ap, ap₂, subst, refl, arith, ℕ, zero, suc, ◌+◌, ◌-◌, ◌^◌, ◌<◌, ◌≤◌, Bool, true, false, inl, inr, nat_eq, int_le, List, [], ◌∷◌, ◌++◌, length, drop, get_or, replicate, Option, Some, None, ℤ, pos, negsuc, neg_ℤ, ◌+ℤ◌, ◌-ℤ◌, ◌*ℤ◌, ◌≤ℤ◌, unsigned_abs, if◌then◌else◌, SFits, FitsSigned, to_z, of_z}
+use Rattle.std.proofs.lemmas.List.{drop_more, drop_all, get_or_past}
+use Rattle.std.proofs.lemmas.Int.{ints, to_z-of_z, unsigned_abs-mul}
 use mir.Syntax.{w128, w32}
 use borrow.Author.Tests.{eqb-true, eq-eqb}
 use native.Mathlib.Nat.{mul-le-mul}
@@ -9,14 +9,13 @@ use Rattle.cc_base.specs.Inequality as plain
 use Rattle.cc_base.specs.Inequality.{total, floor, coefficient}
 use Rattle.cc_base.specs.declared.forms.Multiple.{Multiple}
 use Rattle.cc_base.specs.Pass.{below, above, is_positive, is_lower, is_upper, lowers, uppers}
-use Rattle.cc_base.specs.Witness.{changed, left, least_for, most_for, larger, smaller, greatest, smallest, value_for, unwound, origin, restored, Turn}
+use Rattle.cc_base.specs.Witness.{changed, left, least_for, most_for, larger, smaller, greatest, smallest, value_for}
 use Rattle.linear_solver.specs.declared.inequalities.Inequality.{Inequality}
 use Rattle.linear_solver.specs.declared.pass.Step.{Step}
-use Rattle.linear_solver.specs.declared.slack.Side.TheVariants.{Neither, Lower, Upper}
 use Rattle.linear_solver.specs.declared.restore.Room.{Room}
 use Rattle.linear_solver.specs.Sides.{side}
-use Rattle.linear_solver.specs.Seen.{seen, seen_all, seen_turn, seen_turns, at_places}
-use Rattle.linear_solver.specs.Ordered.{Ordered, Narrow, NarrowAll}
+use Rattle.linear_solver.specs.Seen.{seen, seen_all, seen_turns, at_places}
+use Rattle.linear_solver.specs.Ordered.{Ordered, NarrowAll}
 use Rattle.linear_solver.specs.Trail.{Sound, with_low, with_high, room_step, room_from, or_zero, first_of, no_room}
 use Rattle.linear_solver.proofs.Integers.{bool_cases}
 use Rattle.linear_solver.proofs.Loops.{seen_drop, seen_end}

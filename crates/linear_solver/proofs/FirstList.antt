@@ -1,5 +1,5 @@
 -- The first list of elimination, written in loops.
-use Rattle.std.proofs.Common.{◌≡◌, ◌∙◌, sym, ap, ap₂, subst, refl, arith, ℕ, zero, suc, ◌+◌, ◌^◌, ◌<◌, ◌≤◌, Bool, true, false, ◌⊎◌, inl, inr, List, [], ◌∷◌, ◌++◌, length, map, drop, get_or, append_assoc, append-nil, ℤ, pos, negsuc, neg_ℤ, ◌-ℤ◌, unsigned_abs, All, if◌then◌else◌, SFits, FitsSigned, to_z, of_z}
+use Rattle.std.proofs.Common.{◌≡◌, ◌∙◌, sym, ap, ap₂, subst, arith, ℕ, zero, suc, ◌+◌, ◌^◌, ◌<◌, ◌≤◌, Bool, inl, inr, List, [], ◌∷◌, ◌++◌, length, drop, get_or, append_assoc, append-nil, ℤ, pos, negsuc, neg_ℤ, ◌-ℤ◌, unsigned_abs, if◌then◌else◌, SFits, FitsSigned, to_z, of_z}
 use mir.Syntax.{w128, w32}
 use Rattle.std.proofs.lemmas.Int.{ints, to_z-of_z}
 use Rattle.std.proofs.lemmas.List.{drop_more, drop_all, length-map}
@@ -11,7 +11,7 @@ use Rattle.linear_solver.specs.declared.atoms.LinearAtom.{LinearAtom}
 use Rattle.linear_solver.specs.declared.atoms.Sign.{Sign}
 use Rattle.linear_solver.specs.declared.atoms.Sign.TheVariants.{AtMostZero, Zero, NotZero}
 use Rattle.linear_solver.specs.declared.inequalities.Inequality.{Inequality}
-use Rattle.linear_solver.specs.Atoms.{atom_of, seen_form, seen_atom, seen_atoms, FitForm, FitAll}
+use Rattle.linear_solver.specs.Atoms.{atom_of, seen_atom, seen_atoms, FitForm, FitAll}
 use Rattle.linear_solver.specs.Ordered.{Ordered, Safe, SafeAll}
 use Rattle.linear_solver.specs.Seen.{seen, seen_all, single}
 use Rattle.linear_solver.proofs.Integers.{bool_cases}

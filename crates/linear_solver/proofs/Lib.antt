@@ -20,6 +20,7 @@ pub mod Ranking
 pub mod TidySteps
 pub mod Pairing
 pub mod Evaluation
+pub mod Bounding
 pub mod Writing
 pub mod FirstList
 pub mod Spanning
@@ -28,3 +29,4 @@ pub mod Settling
 pub mod PartSteps
 pub mod Assembling
 pub mod WritingAnswers
+pub mod Chains

@@ -1,6 +1,6 @@
 -- The steps of loops over inequalities.
-use Rattle.std.proofs.Common.{◌≡◌, ◌∙◌, sym, ap, ap₂, subst, refl, arith, ℕ, zero, suc, ◌+◌, ◌<◌, ◌≤◌, ◌^◌, List, [], ◌∷◌, ◌++◌, length, map, reverse, take, drop, get_or, append_assoc, append-nil, All, unsigned_abs, ℤ, pos, ◌+ℤ◌, Bool, true, false, ◌⊎◌, inl, inr, nat_eq, if◌then◌else◌}
-use Rattle.std.proofs.lemmas.List.{drop_more, drop_all, take_more, take_all, map-append, reverse-append, get_or_read}
+use Rattle.std.proofs.Common.{◌≡◌, ◌∙◌, sym, ap, ap₂, subst, refl, arith, ℕ, zero, suc, ◌+◌, ◌<◌, ◌≤◌, List, [], ◌∷◌, ◌++◌, length, map, reverse, take, drop, get_or, append_assoc, append-nil, ℤ, pos, ◌+ℤ◌, Bool, true, inl, inr, nat_eq, if◌then◌else◌}
+use Rattle.std.proofs.lemmas.List.{drop_more, drop_all, take_more, take_all, map-append, reverse-append}
 use Rattle.std.proofs.lemmas.Int.{ints}
 use borrow.Author.Tests.{eqb-true, eq-eqb}
 use Rattle.cc_base.specs.Inequality as plain
@@ -8,7 +8,7 @@ use Rattle.cc_base.specs.Inequality.{coefficient}
 use Rattle.cc_base.specs.declared.forms.Multiple.{Multiple}
 use Rattle.linear_solver.specs.declared.inequalities.Inequality.{Inequality}
 use Rattle.linear_solver.specs.Seen.{seen, seen_all}
-use Rattle.linear_solver.specs.Ordered.{Ordered, Narrow, NarrowAll, Safe, SafeAll}
+use Rattle.linear_solver.specs.Ordered.{Ordered, Narrow, NarrowAll}
 use Rattle.linear_solver.proofs.Integers.{bool_cases}
 
 pub seen_drop : (l : List Inequality) (k : ℕ) (x : Inequality) → k < length l → x ≡ get_or l k x → seen_all (drop k l) ≡ seen x ∷ seen_all (drop (k + 1) l)

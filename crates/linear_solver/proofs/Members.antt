@@ -1,5 +1,5 @@
 -- The walk through a list for a place.
-use Rattle.std.proofs.Common.{◌≡◌, ◌∙◌, sym, ap, subst, refl, arith, ℕ, zero, suc, ◌+◌, ◌<◌, ◌≤◌, Bool, true, false, ◌||◌, ◌⊎◌, inl, inr, nat_eq, List, [], ◌∷◌, length, drop, get_or, All}
+use Rattle.std.proofs.Common.{◌≡◌, ◌∙◌, sym, ap, subst, arith, ℕ, suc, ◌+◌, ◌<◌, ◌≤◌, Bool, true, false, ◌||◌, inl, inr, nat_eq, List, [], ◌∷◌, length, drop, get_or, All}
 use Rattle.std.proofs.lemmas.List.{drop_more, drop_all}
 use borrow.Author.Tests.{eqb-true, eq-eqb}
 use Rattle.cc_base.specs.Groups.{contains}

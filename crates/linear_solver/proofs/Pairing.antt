@@ -1,21 +1,20 @@
 -- The steps of the loops that pair inequalities, and what stays safe.
-use Rattle.std.proofs.Common.{◌≡◌, ◌≢◌, ◌∙◌, sym, ap, ap₂, subst, refl, arith, ℕ, zero, suc, ◌+◌, ◌-◌, ◌*◌, ◌^◌, ◌<◌, ◌≤◌, Bool, true, false, not, ◌||◌, ◌⊎◌, inl, inr, nat_eq, nat_lt, List, [], ◌∷◌, ◌++◌, length, map, drop, get_or, append_assoc, append-nil, All, ℤ, pos, negsuc, ◌+ℤ◌, ◌-ℤ◌, ◌*ℤ◌, unsigned_abs, if◌then◌else◌, lit<}
-use Rattle.std.proofs.lemmas.List.{drop_more, drop_all, map-append}
-use Rattle.std.proofs.lemmas.List.Elements.{All-cons, All-tail, All-head, All-nil, All-map, All-weaker}
+use Rattle.std.proofs.Common.{◌≡◌, ◌∙◌, sym, ap, ap₂, subst, refl, arith, ℕ, zero, suc, ◌+◌, ◌*◌, ◌^◌, ◌<◌, ◌≤◌, Bool, true, false, ◌||◌, inl, inr, nat_lt, List, [], ◌∷◌, ◌++◌, length, map, drop, get_or, append_assoc, append-nil, All, ℤ, pos, negsuc, ◌+ℤ◌, ◌-ℤ◌, ◌*ℤ◌, unsigned_abs, if◌then◌else◌}
+use Rattle.std.proofs.lemmas.List.Elements.{All-cons, All-tail, All-nil, All-map, All-weaker}
 use Rattle.std.proofs.lemmas.Int.{ints, unsigned_abs-mul}
 use native.Mathlib.Nat.{mul-le-mul, div-le_self}
-use borrow.Author.Tests.{eqb-true, eq-eqb, ltb-true}
+use borrow.Author.Tests.{ltb-true}
 use Rattle.cc_base.specs.Inequality as plain
 use Rattle.cc_base.specs.Inequality.{coefficient, scaled, scaled_term, merge, merge_term, put_unless_zero, int_is_zero, normal, divided_by, divided, divisor, floor}
 use Rattle.cc_base.specs.declared.forms.Multiple.{Multiple}
 use Rattle.cc_base.specs.declared.passes.Mode.{Mode}
 use Rattle.cc_base.specs.declared.passes.PassEnd.TheVariants.{Open, Empty}
-use Rattle.cc_base.specs.Pass.{below, above, is_positive, is_lower, is_upper, lowers, uppers, others, dark_part, paired, paired_with, all_paired, eliminate, kept, tidy, lesser, same_terms, wide_term, too_wide, some_wide, has_terms, some_false, with_terms, Ready, ended, going, go_on, judged, ready}
+use Rattle.cc_base.specs.Pass.{below, above, is_positive, is_lower, is_upper, lowers, uppers, others, dark_part, paired, paired_with, all_paired, eliminate, kept, tidy, lesser, same_terms, wide_term, too_wide, some_wide, has_terms, some_false, with_terms, ended, going, go_on, judged, ready}
 use Rattle.linear_solver.specs.declared.inequalities.Inequality.{Inequality}
 use Rattle.linear_solver.specs.Seen.{seen, seen_all}
 use Rattle.linear_solver.specs.Ordered.{Ordered, Narrow, NarrowAll, Safe, SafeAll}
 use Rattle.linear_solver.proofs.Integers.{bool_cases}
-use Rattle.linear_solver.proofs.Tidied.{or_true, or_false}
+use Rattle.linear_solver.proofs.Tidied.{or_false}
 use Rattle.linear_solver.proofs.Loops.{seen_drop, seen_end, ordered_later}
 use Rattle.linear_solver.proofs.Ranking.{coefficient_bound, below_bound, above_bound}
 

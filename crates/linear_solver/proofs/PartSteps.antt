@@ -1,14 +1,13 @@
 -- The steps of the loops that part places.
-use Rattle.std.proofs.Common.{◌≡◌, ◌≢◌, ◌∙◌, sym, ap, ap₂, subst, refl, arith, ℕ, zero, suc, ◌+◌, ◌<◌, ◌≤◌, Bool, true, false, ◌||◌, ◌⊎◌, inl, inr, nat_eq, List, [], ◌∷◌, ◌++◌, length, map, reverse, take, drop, get_or, append_assoc, append-nil, if◌then◌else◌, Vec, Global, ℤ}
-use Rattle.std.proofs.lemmas.List.{drop_more, drop_all, reverse-append, reverse-reverse, map-append}
-use borrow.Author.Tests.{eqb-true, eq-eqb}
+use Rattle.std.proofs.Common.{◌≡◌, ◌∙◌, sym, ap, ap₂, refl, ℕ, ◌+◌, ◌<◌, ◌≤◌, Bool, true, false, ◌||◌, inl, inr, List, [], ◌∷◌, ◌++◌, length, map, reverse, drop, get_or, append_assoc, append-nil, if◌then◌else◌, Vec, Global}
+use Rattle.std.proofs.lemmas.List.{drop_more, drop_all, reverse-append, map-append}
 use Rattle.cc_base.specs.declared.forms.Multiple.{Multiple}
 use Rattle.cc_base.specs.Groups.{Form, Atom, form_of, contains, put, put_all, named, shares, touching, apart, parts, atoms_on}
 use Rattle.linear_solver.specs.declared.atoms.LinearAtom.{LinearAtom}
-use Rattle.linear_solver.specs.Atoms.{seen_form, seen_atom, seen_atoms, atom_of}
+use Rattle.linear_solver.specs.Atoms.{seen_atom, seen_atoms}
 use Rattle.linear_solver.specs.Parts.{backwards, all_backwards}
 use Rattle.linear_solver.proofs.Integers.{bool_cases}
-use Rattle.linear_solver.proofs.Parting.{In, shared, shares_of, contains_reverse, put_named, put_new, put_old, put_out, or_left}
+use Rattle.linear_solver.proofs.Parting.{In, shared, shares_of, contains_reverse, put_named}
 use Rattle.linear_solver.proofs.Tidied.{or_true}
 use Rattle.linear_solver.proofs.Writing.{atoms_drop, atoms_end, seen_form_is}
 

@@ -1,13 +1,13 @@
 -- The groups of a list of atoms: their parts are disjoint, and cover the atoms.
-use Rattle.std.proofs.Common.{◌≡◌, ◌≢◌, ◌∙◌, sym, ap, ap₂, subst, refl, arith, ℕ, zero, suc, ℤ, pos, ◌+ℤ◌, ◌*ℤ◌, ◌≤ℤ◌, ◌<◌, ◌≤◌, ◌+◌, Bool, true, false, not, ◌&&◌, ◌||◌, ◌⊎◌, ◌↔◌, inl, inr, nat_eq, List, [], ◌∷◌, ◌++◌, length, map, reverse, if◌then◌else◌}
+use Rattle.std.proofs.Common.{◌≡◌, ◌≢◌, ◌∙◌, sym, ap, ap₂, subst, refl, arith, ℕ, suc, ℤ, pos, ◌+ℤ◌, ◌*ℤ◌, ◌≤ℤ◌, Bool, true, false, ◌||◌, ◌⊎◌, inl, inr, nat_eq, List, [], ◌∷◌, ◌++◌, length, reverse, if◌then◌else◌}
 use Rattle.std.proofs.lemmas.List.{reverse-append}
-use borrow.Author.Tests.{eqb-true, true-eqb, eq-eqb}
+use borrow.Author.Tests.{eqb-true, eq-eqb}
 use Rattle.cc_base.specs.Inequality.{total}
 use Rattle.cc_base.specs.declared.forms.Multiple.{Multiple}
-use Rattle.cc_base.specs.Groups.{Form, Atom, at_most_zero, is_zero, not_zero, same, differ, value, Holds, HoldAll, Between, form_of, contains, put, put_all, named, places_in, shares, touching, apart, parts, atoms_on, placeless, groups_of, groups}
+use Rattle.cc_base.specs.Groups.{Atom, at_most_zero, is_zero, not_zero, same, differ, value, Holds, HoldAll, form_of, contains, put, put_all, named, shares, touching, apart, parts, atoms_on, placeless, groups_of, groups}
 use Rattle.linear_solver.specs.Standing.{OutOf, Member}
 use Rattle.linear_solver.proofs.Integers.{bool_cases}
-use Rattle.linear_solver.proofs.Tidied.{or_true, or_false}
+use Rattle.linear_solver.proofs.Tidied.{or_true}
 
 abbrev pub In : ℕ → List ℕ → Type 0
 In x l = contains l x ≡ true

@@ -1,9 +1,8 @@
 -- A Real pass that ends Empty: no integers meet the list. A Dark pass that ends Full: its values meet the list.
-use Rattle.std.proofs.Common.{◌≡◌, ℕ, zero, suc, ◌+◌, ◌*◌, ℤ, pos, negsuc, ◌+ℤ◌, ◌≤ℤ◌, Bool, true, false, ◌⊎◌, ◌↔◌, inl, inr, List, [], ◌∷◌, ◌++◌, length, refl, sym, ap, ◌∙◌, subst, arith}
-use Rattle.cc_base.specs.Inequality.{Inequality, Meets, MeetsAll}
+use Rattle.std.proofs.Common.{◌≡◌, ℕ, zero, suc, ℤ, List}
+use Rattle.cc_base.specs.Inequality.{Inequality, MeetsAll}
 use Rattle.cc_base.specs.Pass.{Ready, ended, going, ready, Passed, costing, pairs, eliminate, turns, pass}
 use Rattle.cc_base.specs.declared.passes.Mode.{Mode}
-use Rattle.cc_base.specs.declared.passes.PassEnd.{PassEnd}
 use Rattle.cc_base.specs.declared.passes.Mode.TheVariants.{Real, Dark}
 use Rattle.cc_base.specs.declared.passes.PassEnd.TheVariants.{Open, Empty, Full}
 use Rattle.cc_base.specs.Witness.{restored, origin, witness}
@@ -41,7 +40,7 @@ dark_next n l (ended Empty) ih s h = absurd (cc h)
 dark_next n l (ended Full) ih s h = s origin
 dark_next n l (going x k) ih s h = let w = restored (witness Dark n (eliminate Dark x k)) x k in (s w).1 (dark_taken (witness Dark n (eliminate Dark x k)) x k (ih (eliminate Dark x k) h))
 
-dark_turns : (n : ℕ) (l : List Inequality) → (turns Dark n l).how ≡ Full → MeetsAll (witness Dark n l) l
+pub dark_turns : (n : ℕ) (l : List Inequality) → (turns Dark n l).how ≡ Full → MeetsAll (witness Dark n l) l
 unfolding turns next witness back
 dark_turns zero l h = absurd (cc h)
 dark_turns (suc n) l h = dark_next n l (ready l) (dark_turns n) (ready_says l) h

@@ -1,5 +1,5 @@
 -- Powers, and the points of a box.
-use Rattle.std.proofs.Common.{◌≡◌, ◌∙◌, sym, ap, subst, refl, arith, ℕ, zero, suc, ◌+◌, ◌-◌, ◌*◌, ◌^◌, ◌<◌, ◌≤◌, mul_comm, mul_assoc}
+use Rattle.std.proofs.Common.{◌≡◌, ◌∙◌, sym, ap, subst, arith, ℕ, zero, suc, ◌+◌, ◌-◌, ◌*◌, ◌^◌, ◌<◌, ◌≤◌, mul_comm, mul_assoc}
 use native.Mathlib.Nat.{pow-zero, pow-succ', mul-le-mul, mul-le-mul_left}
 
 pub power_none : (c w : ℕ) → c ≡ c * w ^ 0

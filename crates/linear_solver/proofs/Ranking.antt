@@ -1,7 +1,7 @@
 -- Slack, pairs and the order of places, by their sides.
-use Rattle.std.proofs.Common.{◌≡◌, ◌≢◌, ◌∙◌, sym, ap, ap₂, subst, refl, arith, ℕ, zero, suc, ◌+◌, ◌-◌, ◌*◌, ◌^◌, ◌<◌, ◌≤◌, max, Bool, true, false, ◌||◌, ◌&&◌, ◌⊎◌, inl, inr, nat_eq, nat_lt, List, [], ◌∷◌, length, drop, get_or, All, ℤ, pos, negsuc, ◌+ℤ◌, unsigned_abs, if◌then◌else◌, mul_comm}
+use Rattle.std.proofs.Common.{◌≡◌, ◌∙◌, sym, ap, ap₂, subst, refl, arith, ℕ, zero, suc, ◌+◌, ◌-◌, ◌*◌, ◌^◌, ◌<◌, ◌≤◌, max, Bool, true, false, ◌||◌, ◌&&◌, ◌⊎◌, inl, inr, nat_eq, nat_lt, List, [], ◌∷◌, length, drop, get_or, All, ℤ, pos, negsuc, ◌+ℤ◌, unsigned_abs, if◌then◌else◌, mul_comm}
 use Rattle.std.proofs.lemmas.List.{drop_more, drop_all}
-use Rattle.std.proofs.lemmas.List.Elements.{All-push, All-nil}
+use Rattle.std.proofs.lemmas.List.Elements.{All-nil}
 use Rattle.std.proofs.lemmas.Bool.{cases_lt}
 use Rattle.std.proofs.lemmas.Int.{ints}
 use native.Mathlib.Nat.{mul-le-mul_left, mul-le-mul}
@@ -9,18 +9,16 @@ use borrow.Author.Tests.{eqb-true, eq-eqb, ltb-true}
 use Rattle.cc_base.specs.Inequality.{Inequality, coefficient}
 use Rattle.cc_base.specs.declared.forms.Multiple.{Multiple}
 use Rattle.cc_base.specs.Pass.{below, above, is_positive, is_lower, is_upper, lowers, uppers, pair_slack, slack_with, slack_of, slack, pairs, better, best_in, best}
-use Rattle.linear_solver.specs.declared.slack.Side.{Side}
 use Rattle.linear_solver.specs.declared.slack.Side.TheVariants.{Neither, Lower, Upper}
 use Rattle.linear_solver.specs.declared.slack.Sides.{Sides}
 use Rattle.linear_solver.specs.declared.slack.Rank.{Rank}
 use Rattle.linear_solver.specs.declared.slack.Best.{Best}
 use Rattle.linear_solver.specs.Sides.{side, side_step, sides_from, sides, no_sides}
 use Rattle.linear_solver.specs.Ranks.{rank, before, Known, just}
-use Rattle.linear_solver.specs.Ordered.{Ordered, Narrow, NarrowAll}
+use Rattle.linear_solver.specs.Ordered.{Ordered, NarrowAll}
 use Rattle.linear_solver.proofs.Integers.{bool_cases}
 use Rattle.linear_solver.proofs.Tidied.{or_true, and_true}
 use Rattle.linear_solver.proofs.Loops.{no_coefficient}
-use Rattle.linear_solver.proofs.Members.{all_member}
 
 push_if : {A B : Type 0} (f : A → B) (b : Bool) (x y : A) → f (if b then x else y) ≡ (if b then f x else f y)
 push_if f true x y = refl

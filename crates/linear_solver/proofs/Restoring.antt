@@ -1,10 +1,10 @@
 -- The values that are found backwards.
-use Rattle.std.proofs.Common.{◌≡◌, ◌≢◌, ◌∙◌, sym, ap, ap₂, subst, refl, arith, ℕ, zero, suc, ℤ, pos, ◌<◌, ◌≤◌, ◌+◌, ◌-◌, Bool, true, false, ◌⊎◌, inl, inr, nat_eq, List, [], ◌∷◌, length, map, drop, drop-cons, set, replicate, get_or, if◌then◌else◌}
-use Rattle.std.proofs.lemmas.List.{get_or-set_same, get_or-set_other, get_or_past, get_or-replicate, length-replicate}
+use Rattle.std.proofs.Common.{◌≡◌, ◌≢◌, ◌∙◌, sym, ap, subst, refl, arith, ℕ, zero, suc, ℤ, pos, ◌<◌, ◌≤◌, ◌-◌, Bool, inl, inr, nat_eq, List, [], ◌∷◌, length, map, drop, drop-cons, set, replicate, get_or, if◌then◌else◌}
+use Rattle.std.proofs.lemmas.List.{get_or-set_same, get_or-set_other}
 use lib.ListN.{drop_of_length-le}
 use borrow.Author.Tests.{eqb-true, eqb-false}
 use Rattle.cc_base.specs.Pass.{lowers, uppers}
-use Rattle.cc_base.specs.Witness.{changed, origin, restored, value_for, unwound, Turn}
+use Rattle.cc_base.specs.Witness.{changed, origin, restored, value_for, unwound}
 use Rattle.linear_solver.specs.Seen.{seen_all, seen_turn, seen_turns, at_places}
 use Rattle.linear_solver.specs.declared.pass.Step.{Step}
 use Rattle.linear_solver.proofs.Integers.{bool_cases}

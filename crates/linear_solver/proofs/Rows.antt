@@ -3,8 +3,6 @@ use Rattle.std.proofs.Common.{◌≡◌, ℕ, ℤ, pos, negsuc, List, [], ◌∷
 use Rattle.cc_base.specs.Inequality.{Inequality}
 use Rattle.cc_base.specs.declared.forms.Multiple.{Multiple}
 use Rattle.cc_base.specs.Pass.{Passed, pass}
-use Rattle.cc_base.specs.declared.passes.Mode.TheVariants.{Real, Dark}
-use Rattle.cc_base.specs.declared.passes.PassEnd.TheVariants.{Empty, Full, Open}
 use Rattle.cc_base.specs.Groups.{Form, Atom, at_most_zero, is_zero, not_zero, groups}
 use Rattle.cc_base.specs.Need.{Tried, found, closed, open_choice, elimination, need, first_list}
 

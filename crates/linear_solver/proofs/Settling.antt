@@ -1,25 +1,22 @@
 -- What shows that a group is settled.
-use Rattle.std.proofs.Common.{◌≡◌, ◌≢◌, ◌∙◌, sym, ap, ap₂, subst, refl, arith, ℕ, zero, suc, ◌+◌, ◌-◌, ◌*◌, ◌^◌, ◌<◌, ◌≤◌, min, Bool, true, false, ◌||◌, ◌⊎◌, inl, inr, nat_eq, List, [], ◌∷◌, length, ℤ, pos, ◌+ℤ◌, ◌-ℤ◌, ◌≤ℤ◌, unsigned_abs, Vec, Global}
+use Rattle.std.proofs.Common.{◌≡◌, ◌∙◌, sym, ap, ap₂, subst, arith, ℕ, suc, ◌+◌, ◌-◌, ◌*◌, ◌^◌, ◌<◌, ◌≤◌, true, false, ◌||◌, inl, inr, nat_eq, List, [], ◌∷◌, length, ℤ, pos, ◌+ℤ◌, ◌≤ℤ◌}
 use Rattle.std.proofs.lemmas.Int.{ints}
-use borrow.Author.Tests.{eqb-true, eq-eqb}
+use borrow.Author.Tests.{eqb-true}
 use native.Mathlib.Nat.{mul-le-mul}
-use Rattle.cc_base.specs.Inequality.{Inequality, MeetsAll}
 use Rattle.cc_base.specs.declared.forms.Multiple.{Multiple}
-use Rattle.cc_base.specs.Groups.{Form, Atom, Holds, HoldAll, Between, HasValues, form_of, contains, put, put_all, named, places_in}
-use Rattle.cc_base.specs.Need.{Tried, found, closed, open_choice, after, elimination, first_list, disequalities, box, width, with_elimination, need_at, need}
+use Rattle.cc_base.specs.Groups.{Atom, HoldAll, Between, HasValues, form_of, contains, named, places_in}
+use Rattle.cc_base.specs.Need.{Tried, found, closed, open_choice, after, elimination, box, width, with_elimination, need_at, need}
 use Rattle.cc_base.specs.Solve as plain
 use Rattle.cc_base.specs.Witness.{changed, origin}
-use Rattle.linear_solver.specs.Atoms.{Apart}
 use Rattle.linear_solver.specs.Box.{decoded}
-use Rattle.linear_solver.specs.Counts.{TriedCount, beyond, within, tried_count}
+use Rattle.linear_solver.specs.Counts.{beyond, within, tried_count}
 use Rattle.linear_solver.specs.Spans.{Only, OnlyAll}
 use Rattle.linear_solver.proofs.Boxes.{numbered, in_box}
 use Rattle.linear_solver.proofs.Choosing.{within_is}
-use Rattle.linear_solver.proofs.Eliminated.{Right, elimination_right, right_of}
+use Rattle.linear_solver.proofs.Eliminated.{Right, elimination_right}
 use Rattle.linear_solver.proofs.Evaluation.{changed_same}
-use Rattle.linear_solver.proofs.Integers.{bool_cases}
 use Rattle.linear_solver.proofs.Parting.{In, all_first, all_second, put_new, put_old, or_left, or_right, same_nat, holds_same}
-use Rattle.linear_solver.proofs.Spent.{Decided, beyond_decides, open_decides, group_beyond}
+use Rattle.linear_solver.proofs.Spent.{beyond_decides, open_decides, group_beyond}
 use Rattle.linear_solver.proofs.Tidied.{or_true}
 
 -- values that agree on the places of atoms

@@ -1,14 +1,13 @@
 -- The steps of the walk that counts sides.
-use Rattle.std.proofs.Common.{◌≡◌, ◌∙◌, sym, ap, ap₂, subst, refl, arith, ℕ, zero, suc, ◌+◌, ◌<◌, ◌≤◌, List, [], ◌∷◌, length, drop, get_or, ℤ, pos, negsuc, unsigned_abs, ◌<ℤ◌, ◌≤ℤ◌}
+use Rattle.std.proofs.Common.{◌≡◌, ◌∙◌, sym, ap, subst, refl, arith, ℕ, zero, suc, ◌+◌, ◌<◌, ◌≤◌, List, length, drop, get_or, ℤ, pos, negsuc, unsigned_abs, ◌<ℤ◌, ◌≤ℤ◌}
 use Rattle.std.proofs.lemmas.Int.{ints}
-use Rattle.cc_base.specs.Inequality as plain
 use Rattle.cc_base.specs.Inequality.{coefficient}
 use Rattle.linear_solver.specs.declared.inequalities.Inequality.{Inequality}
 use Rattle.linear_solver.specs.declared.slack.Side.{Side}
 use Rattle.linear_solver.specs.declared.slack.Side.TheVariants.{Neither, Lower, Upper}
 use Rattle.linear_solver.specs.declared.slack.Sides.{Sides}
-use Rattle.linear_solver.specs.Seen.{seen, seen_all}
-use Rattle.linear_solver.specs.Sides.{side, side_step, sides_from, sides, no_sides}
+use Rattle.linear_solver.specs.Seen.{seen_all}
+use Rattle.linear_solver.specs.Sides.{side, side_step, sides_from}
 use Rattle.linear_solver.proofs.Loops.{seen_drop, seen_end}
 
 pub side_none : (z : ℤ) → z ≡ pos 0 → Neither ≡ side z

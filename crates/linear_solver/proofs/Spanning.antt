@@ -1,19 +1,18 @@
 -- What is left of a span.
-use Rattle.std.proofs.Common.{◌≡◌, ◌≢◌, ◌∙◌, sym, ap, ap₂, subst, refl, arith, ℕ, zero, suc, ◌+◌, ◌*◌, ◌^◌, ◌<◌, ◌≤◌, Bool, true, false, ◌⊎◌, inl, inr, nat_eq, List, [], ◌∷◌, length, get_or, ℤ, pos, negsuc, neg_ℤ, ◌+ℤ◌, ◌-ℤ◌, ◌*ℤ◌, ◌≤ℤ◌, ◌<ℤ◌, unsigned_abs, if◌then◌else◌, SFits, FitsSigned, to_z, of_z}
-use Rattle.std.proofs.lemmas.Int.{ints, to_z-of_z}
-use mir.Syntax.{w128}
-use borrow.Author.Tests.{eqb-true, eq-eqb}
+use Rattle.std.proofs.Common.{◌≡◌, ◌∙◌, sym, ap, ap₂, subst, refl, arith, ℕ, zero, suc, ◌<◌, Bool, true, false, nat_eq, List, [], ◌∷◌, length, get_or, replicate, ℤ, pos, negsuc, neg_ℤ, ◌+ℤ◌, ◌-ℤ◌, ◌*ℤ◌, ◌≤ℤ◌, ◌<ℤ◌, unsigned_abs, if◌then◌else◌}
+use Rattle.std.proofs.lemmas.Int.{ints}
+use borrow.Author.Tests.{eq-eqb}
 use Rattle.cc_base.specs.Inequality.{total, floor, coefficient}
 use Rattle.cc_base.specs.declared.forms.Multiple.{Multiple}
-use Rattle.cc_base.specs.Groups.{Form, Atom, Holds, HoldAll, value, form_of}
+use Rattle.cc_base.specs.Groups.{Form, Holds, HoldAll, value}
 use Rattle.cc_base.specs.Witness.{changed, origin}
 use Rattle.linear_solver.specs.declared.atoms.LinearAtom.{LinearAtom}
 use Rattle.linear_solver.specs.declared.atoms.Sign.{Sign}
 use Rattle.linear_solver.specs.declared.atoms.Sign.TheVariants.{AtMostZero, Zero, NotZero}
 use Rattle.linear_solver.specs.declared.one_place.Span.{Span}
-use Rattle.linear_solver.specs.Atoms.{atom_of, seen_form, seen_atom, seen_atoms, FitForm}
+use Rattle.linear_solver.specs.Atoms.{atom_of, seen_atom, seen_atoms}
 use Rattle.linear_solver.specs.Spans.{Keeps, Narrows, Only, OnlyAll, Counted}
-use Rattle.linear_solver.proofs.Integers.{bool_cases, floor_up, add_mul}
+use Rattle.linear_solver.proofs.Integers.{floor_up, add_mul}
 use lib.IntN.{*ℤ_comm}
 use Rattle.linear_solver.proofs.Taken.{mul_neg}
 use Rattle.linear_solver.proofs.Writing.{seen_form_is}
@@ -115,6 +114,18 @@ unfolding seen_atoms
 holds_member v [] k a o h e = absurd (omega arith)
 holds_member v (b ∷ l) zero a o h e = subst (λ (y : LinearAtom). Holds v (seen_atom y)) (sym e) o.0
 holds_member v (b ∷ l) (suc k) a o h e = holds_member v l k a o.1 (omega arith) e
+
+-- ---- numbers that a disequality excludes
+
+pub excluded_by : (x : ℕ) (s : Sign) (g : Form) (z c y k : ℤ) → Only x g.terms → s ≡ NotZero → c ≡ coefficient x g.terms → y ≡ z → k ≡ g.constant → (c *ℤ y) +ℤ k ≡ pos 0 → Holds (changed origin x z) (atom_of s g) → ⊥
+excluded_by x AtMostZero g z c y k o e f h i r m = absurd (cc e)
+excluded_by x Zero g z c y k o e f h i r m = absurd (cc e)
+excluded_by x NotZero g z c y k o e f h i r m = m (only_value x z g o ∙ sym (ap₂ (λ (a b : ℤ). a +ℤ b) (ap₂ (λ (a b : ℤ). a *ℤ b) f h) i) ∙ r)
+
+pub unmarked : (n k : ℕ) → get_or (replicate n false) k false ≡ true → ⊥
+unmarked zero k h = cc h
+unmarked (suc n) zero h = cc h
+unmarked (suc n) (suc k) h = unmarked n k h
 
 -- ---- how many numbers
 

@@ -1,11 +1,9 @@
 -- Spent is exact: the counter of Elimination against Need.
-use Rattle.std.proofs.Common.{◌≡◌, ◌∙◌, sym, ap, refl, arith, ℕ, zero, suc, ◌<◌, ◌≤◌, ◌+◌, min, ℤ, Bool, true, false, ◌⊎◌, inl, inr, nat_lt, List, length, if◌then◌else◌}
+use Rattle.std.proofs.Common.{◌≡◌, ◌∙◌, ap, arith, ℕ, suc, ◌<◌, ◌≤◌, ◌+◌, ℤ, Bool, false, ◌⊎◌, inl, inr, nat_lt, List, length, if◌then◌else◌}
 use Rattle.std.proofs.lemmas.Bool.{cases_lt}
-use Rattle.cc_base.specs.Groups.{Atom, places_in, HasValues}
+use Rattle.cc_base.specs.Groups.{Atom, places_in}
 use Rattle.cc_base.specs.Need.{Tried, found, closed, open_choice, after, elimination, box, with_elimination, need_at, need}
-use Rattle.linear_solver.specs.Counts.{TriedCount, beyond, within, tried_count, cost_of}
-use Rattle.linear_solver.proofs.Integers.{bool_cases}
-use Rattle.linear_solver.proofs.Eliminated.{Right, elimination_right}
+use Rattle.linear_solver.specs.Counts.{beyond, within, tried_count, cost_of}
 
 -- Elimination decides within the budget
 abbrev pub Decided : ℕ → Tried → Type 0

@@ -1,10 +1,10 @@
 -- The steps of the loops.
-use Rattle.std.proofs.Common.{length-append, length-drop, length-take, Bool, true, false, zero, All, ◌^◌}
+use Rattle.std.proofs.Common.{length-append, length-drop, length-take, zero, All}
 use Rattle.std.proofs.lemmas.List.{length-map}
 use lib.ListN.{drop_of_length-le}
-use Rattle.cc_base.specs.Inequality.{Inequality, divided_by, normal}
+use Rattle.cc_base.specs.Inequality.{Inequality, divided_by}
 use Rattle.linear_solver.proofs.Integers.{gcd_below}
-use Rattle.std.proofs.Common.{◌≡◌, ◌∙◌, sym, ap, ap₂, subst, refl, arith, unsigned_abs, ℤ, ℕ, pos, suc, ◌<◌, ◌≤◌, ◌+◌, List, [], ◌∷◌, ◌++◌, length, map, take, drop, drop-cons, set, get_or, take_all, add-one}
+use Rattle.std.proofs.Common.{◌≡◌, ◌∙◌, sym, ap, refl, arith, unsigned_abs, ℤ, ℕ, suc, ◌<◌, ◌≤◌, ◌+◌, List, [], ◌∷◌, ◌++◌, length, map, take, drop, drop-cons, set, get_or, add-one}
 use Rattle.std.proofs.lemmas.List.Edits.{map_over_more}
 use Rattle.cc_base.specs.Inequality.{gcd, divisor, divisor_from, divided, floor}
 use Rattle.cc_base.specs.declared.forms.Multiple.{Multiple}

@@ -1,14 +1,12 @@
 -- One place is taken out: what its pairs say of the values.
-use Rattle.std.proofs.Common.{◌≡◌, ◌≢◌, ℕ, zero, suc, ◌+◌, ◌-◌, ◌*◌, ◌<◌, ◌≤◌, ℤ, pos, negsuc, neg_ℤ, ◌+ℤ◌, ◌-ℤ◌, ◌*ℤ◌, ◌≤ℤ◌, ◌<ℤ◌, int_lt, int_le, nat_eq, nat_lt, unsigned_abs, Bool, true, false, not, ◌&&◌, ◌||◌, ◌⊎◌, ◌↔◌, inl, inr, List, [], ◌∷◌, ◌++◌, length, map, refl, sym, ap, ap₂, ◌∙◌, subst, arith, if◌then◌else◌}
+use Rattle.std.proofs.Common.{◌≡◌, ℕ, zero, suc, ◌-◌, ◌*◌, ◌≤◌, ℤ, pos, negsuc, neg_ℤ, ◌+ℤ◌, ◌-ℤ◌, ◌*ℤ◌, ◌≤ℤ◌, int_le, Bool, true, false, ◌||◌, ◌↔◌, inl, inr, List, [], ◌∷◌, ◌++◌, refl, sym, ap, ap₂, ◌∙◌, subst, arith, if◌then◌else◌}
 use Rattle.std.proofs.lemmas.Int.{ints}
 use native.Mathlib.Nat.{mul-le-mul_left}
-use borrow.Author.Differences.{up, down, sum_is_lem, product_is, neg_is}
+use borrow.Author.Differences.{up, down, neg_is}
 use lib.IntN.{*ℤ_comm}
 use Rattle.linear_solver.proofs.Integers.{bool_cases, mul_add, add_mul, mul_assoc_z, scale_le, floor_is, floor_up, floor_down}
 use Rattle.linear_solver.proofs.Totals.{total_scaled, total_merge, total_changed}
-use Rattle.linear_solver.proofs.Tidied.{or_false}
 use Rattle.cc_base.specs.Inequality.{Inequality, total, Meets, MeetsAll, floor, scaled, merge, coefficient}
-use Rattle.cc_base.specs.declared.forms.Multiple.{Multiple}
 use Rattle.cc_base.specs.Pass.{below, above, is_positive, is_lower, is_upper, lowers, uppers, others, dark_part, paired, paired_with, all_paired, eliminate}
 use Rattle.cc_base.specs.declared.passes.Mode.{Mode}
 use Rattle.cc_base.specs.declared.passes.Mode.TheVariants.{Real, Dark}
@@ -45,7 +43,7 @@ others_meet v x (i ∷ l) h = let k = others_meet v x l h.1 in elim (bool_cases 
   | inr t ↦ subst (λ (b : Bool). MeetsAll v (if b then others x l else i ∷ others x l)) (sym t) (h.0, k)
 ]
 
-pair_total : (v : ℕ → ℤ) (m : Mode) (x : ℕ) (i j : Inequality) →
+pub pair_total : (v : ℕ → ℤ) (m : Mode) (x : ℕ) (i j : Inequality) →
     total v (paired m x i j).terms ≡ (pos (above (coefficient x j.terms)) *ℤ total v i.terms) +ℤ (pos (below (coefficient x i.terms)) *ℤ total v j.terms)
 unfolding paired
 pair_total v m x i j =
@@ -107,18 +105,18 @@ room a c r s h =
     ])
 
 -- the coefficients of x
-below_sign : (k : ℤ) → is_positive (below k) ≡ true → (a : ℕ) × (below k ≡ suc a) × (k ≡ negsuc a)
+pub below_sign : (k : ℤ) → is_positive (below k) ≡ true → (a : ℕ) × (below k ≡ suc a) × (k ≡ negsuc a)
 unfolding below is_positive
 below_sign (pos n) h = absurd (cc h)
 below_sign (negsuc n) h = (n, refl, refl)
 
-above_sign : (k : ℤ) → is_positive (above k) ≡ true → (c : ℕ) × (above k ≡ suc c) × (k ≡ pos (suc c))
+pub above_sign : (k : ℤ) → is_positive (above k) ≡ true → (c : ℕ) × (above k ≡ suc c) × (k ≡ pos (suc c))
 unfolding above is_positive
 above_sign (pos zero) h = absurd (cc h)
 above_sign (pos (suc n)) h = (n, refl, refl)
 above_sign (negsuc n) h = absurd (cc h)
 
-no_sign : (k : ℤ) → is_positive (below k) ≡ false → is_positive (above k) ≡ false → k ≡ pos 0
+pub no_sign : (k : ℤ) → is_positive (below k) ≡ false → is_positive (above k) ≡ false → k ≡ pos 0
 unfolding below above is_positive
 no_sign (pos zero) h m = refl
 no_sign (pos (suc n)) h m = absurd (cc m)
@@ -142,7 +140,7 @@ independent c a k l d p q e =
 mul_sub : (c m t : ℤ) → c *ℤ (m -ℤ t) ≡ (c *ℤ m) -ℤ (c *ℤ t)
 mul_sub c m t = mul_add c m (neg_ℤ t) ∙ ap (λ (n : ℤ). (c *ℤ m) +ℤ n) (mul_neg c t)
 
-opposite_products : (a c : ℕ) → (pos (suc c) *ℤ negsuc a) +ℤ (pos (suc a) *ℤ pos (suc c)) ≡ pos 0
+pub opposite_products : (a c : ℕ) → (pos (suc c) *ℤ negsuc a) +ℤ (pos (suc a) *ℤ pos (suc c)) ≡ pos 0
 opposite_products a c = omega (arith, ints)
 
 room_from : (a c : ℕ) (p q m n d t : ℤ) → t ≡ (pos (suc c) *ℤ p) +ℤ (pos (suc a) *ℤ q) → t ≤ℤ (((pos (suc c) *ℤ m) +ℤ (pos (suc a) *ℤ n)) -ℤ pos (a * c)) →

@@ -1,13 +1,12 @@
 -- The lists made normal have the same values, and what a list that is ready says.
-use Rattle.std.proofs.Common.{◌≡◌, ◌≢◌, ℕ, zero, suc, ◌+◌, ◌-◌, ◌*◌, ◌<◌, ◌≤◌, ℤ, pos, negsuc, neg_ℤ, ◌+ℤ◌, ◌-ℤ◌, ◌*ℤ◌, ◌≤ℤ◌, ◌<ℤ◌, int_lt, int_le, nat_eq, nat_lt, unsigned_abs, Bool, true, false, not, ◌&&◌, ◌||◌, ◌⊎◌, ◌↔◌, inl, inr, List, [], ◌∷◌, ◌++◌, length, map, refl, sym, ap, ap₂, ◌∙◌, subst, arith, if◌then◌else◌}
+use Rattle.std.proofs.Common.{◌≡◌, ℕ, ℤ, pos, ◌≤ℤ◌, ◌<ℤ◌, int_lt, int_le, nat_eq, Bool, true, false, not, ◌&&◌, ◌||◌, ◌⊎◌, ◌↔◌, inl, inr, List, [], ◌∷◌, length, refl, sym, ap, ap₂, ◌∙◌, subst, arith, if◌then◌else◌}
 use Rattle.std.proofs.lemmas.Int.{ints}
 use borrow.Author.Tests.{eqb-true}
 use Rattle.linear_solver.proofs.Integers.{bool_cases}
 use Rattle.linear_solver.proofs.Totals.{meets_normal}
 use Rattle.cc_base.specs.Inequality.{Inequality, total, Meets, MeetsAll, normal}
 use Rattle.cc_base.specs.declared.forms.Multiple.{Multiple}
-use Rattle.cc_base.specs.Pass.{int_same, same_terms, lesser, kept, tidy, some_wide, has_terms, is_false, some_false, with_terms, Ready, ended, going, go_on, judged, ready, best, some_place}
-use Rattle.cc_base.specs.declared.passes.PassEnd.{PassEnd}
+use Rattle.cc_base.specs.Pass.{int_same, same_terms, lesser, kept, tidy, some_wide, has_terms, is_false, some_false, with_terms, Ready, ended, going, go_on, judged, ready}
 use Rattle.cc_base.specs.declared.passes.PassEnd.TheVariants.{Open, Empty, Full}
 
 pub and_true : (a b : Bool) → a && b ≡ true → (a ≡ true) × (b ≡ true)

@@ -1,6 +1,6 @@
 -- The steps of the loops that make a list normal.
-use Rattle.std.proofs.Common.{◌≡◌, ◌≢◌, ◌∙◌, sym, ap, ap₂, subst, refl, arith, ℕ, zero, suc, ◌+◌, ◌^◌, ◌<◌, ◌≤◌, Bool, true, false, not, ◌||◌, ◌&&◌, ◌⊎◌, inl, inr, nat_eq, nat_lt, int_le, int_lt, List, [], ◌∷◌, ◌++◌, length, map, reverse, take, drop, set, get_or, append_assoc, append-nil, All, ℤ, pos, negsuc, ◌≤ℤ◌, ◌<ℤ◌, unsigned_abs, if◌then◌else◌, SFits, to_z, of_z}
-use Rattle.std.proofs.lemmas.List.{drop_more, drop_all, take_more, take_all, set_split, map-append, reverse-append, length-append}
+use Rattle.std.proofs.Common.{◌≡◌, ◌∙◌, sym, ap, ap₂, subst, refl, arith, ℕ, suc, ◌+◌, ◌^◌, ◌<◌, ◌≤◌, Bool, true, false, not, ◌||◌, ◌&&◌, inl, inr, nat_eq, nat_lt, int_le, int_lt, List, [], ◌∷◌, ◌++◌, length, map, reverse, take, drop, set, get_or, append_assoc, append-nil, ℤ, pos, ◌≤ℤ◌, unsigned_abs, if◌then◌else◌, SFits, to_z, of_z}
+use Rattle.std.proofs.lemmas.List.{drop_more, drop_all, take_all, set_split, map-append, reverse-append, length-append}
 use Rattle.std.proofs.lemmas.Int.{ints, to_z-of_z}
 use mir.Syntax.{w128}
 use borrow.Author.Tests.{eqb-true, eq-eqb}
@@ -20,7 +20,7 @@ use Rattle.linear_solver.proofs.Loops.{seen_drop, seen_end, seen_push, seen_take
 le_self : (a : ℤ) → int_le a a ≡ true
 le_self a = let h : a ≤ℤ a = omega (arith, ints) in grind (arith, ints)
 
-int_same_self : (a : ℤ) → int_same a a ≡ true
+pub int_same_self : (a : ℤ) → int_same a a ≡ true
 unfolding int_same
 int_same_self a = ap₂ (λ (x y : Bool). x && y) (le_self a) (le_self a)
 
@@ -99,7 +99,7 @@ kept_same : (i j : plain.Inequality) (l : List plain.Inequality) → same_terms 
 unfolding kept with_most
 kept_same i j l e = ap (λ (b : Bool). if b then record { terms = j.terms; most = lesser i.most j.most } ∷ l else j ∷ kept i l) e
 
-kept_other : (i j : plain.Inequality) (l : List plain.Inequality) → same_terms i.terms j.terms ≡ false → kept i (j ∷ l) ≡ j ∷ kept i l
+pub kept_other : (i j : plain.Inequality) (l : List plain.Inequality) → same_terms i.terms j.terms ≡ false → kept i (j ∷ l) ≡ j ∷ kept i l
 unfolding kept
 kept_other i j l e = ap (λ (b : Bool). if b then record { terms = j.terms; most = lesser i.most j.most } ∷ l else j ∷ kept i l) e
 

@@ -1,16 +1,15 @@
 -- The sums of terms: divided, scaled, merged, at a changed value.
-use Rattle.std.proofs.Common.{◌≡◌, ◌≢◌, ℕ, zero, suc, ◌+◌, ◌-◌, ◌*◌, ◌/◌, ◌%◌, ◌<◌, ◌≤◌, ℤ, pos, negsuc, neg_ℤ, ◌+ℤ◌, ◌-ℤ◌, ◌*ℤ◌, ◌≤ℤ◌, ◌<ℤ◌, int_lt, int_le, nat_eq, nat_lt, unsigned_abs, Bool, true, false, not, ◌&&◌, ◌||◌, ◌⊎◌, ◌↔◌, inl, inr, List, [], ◌∷◌, ◌++◌, length, map, refl, sym, ap, ap₂, ◌∙◌, subst, arith, if◌then◌else◌}
+use Rattle.std.proofs.Common.{◌≡◌, ℕ, zero, suc, ℤ, pos, negsuc, ◌+ℤ◌, ◌-ℤ◌, ◌*ℤ◌, nat_eq, nat_lt, unsigned_abs, Bool, ◌↔◌, inl, inr, List, [], ◌∷◌, map, refl, sym, ap, ap₂, ◌∙◌, arith, if◌then◌else◌}
 use Rattle.std.proofs.lemmas.Int.{ints}
-use Rattle.std.proofs.lemmas.Nat.Gcd.{dvd_refl, dvd-zero, dvd_trans}
+use Rattle.std.proofs.lemmas.Nat.Gcd.{dvd_refl, dvd_trans}
 use Prim.Native.Nat.{◌∣◌}
-use borrow.Author.Differences.{up, down, sum_is_lem, product_is}
-use borrow.Author.Tests.{eqb-true, ne_eqb, false-eqb, eqb-false}
-use Rattle.linear_solver.proofs.Integers.{bool_cases, mul_add, add_mul, mul_assoc_z, exact, floor_up, floor_down, gcd_divides, scale_le}
+use borrow.Author.Tests.{eqb-true}
+use Rattle.linear_solver.proofs.Integers.{bool_cases, mul_add, add_mul, mul_assoc_z, exact, floor_up, floor_down, gcd_divides}
 use Rattle.cc_base.specs.Witness.{changed}
-use Rattle.cc_base.specs.Inequality.{Inequality, total, Meets, MeetsAll, gcd, divisor_from, divisor, floor, divided, divided_by, normal, scaled_term, scaled, int_is_zero, put_unless_zero, merge_term, merge, coefficient}
+use Rattle.cc_base.specs.Inequality.{Inequality, total, Meets, gcd, divisor_from, divisor, floor, divided, divided_by, normal, scaled_term, scaled, int_is_zero, put_unless_zero, merge_term, merge, coefficient}
 use Rattle.cc_base.specs.declared.forms.Multiple.{Multiple}
 
-abbrev Divides : ℕ → List Multiple → Type 0
+abbrev pub Divides : ℕ → List Multiple → Type 0
 Divides g [] = Unit {0}
 Divides g (t ∷ l) = (g ∣ unsigned_abs t.coefficient) × Divides g l
 
@@ -20,11 +19,11 @@ divides_from g [] = (dvd_refl g, tt)
 divides_from g (t ∷ l) = let e = gcd_divides g (unsigned_abs t.coefficient) in let r = divides_from (gcd g (unsigned_abs t.coefficient)) l in
     (dvd_trans _ r.0 e.0, (dvd_trans _ r.0 e.1, r.1))
 
-divisor_divides : (l : List Multiple) → Divides (divisor l) l
+pub divisor_divides : (l : List Multiple) → Divides (divisor l) l
 unfolding divisor
 divisor_divides l = (divides_from 0 l).1
 
-total_divided : (v : ℕ → ℤ) (g : ℕ) (l : List Multiple) → Divides (suc g) l → pos (suc g) *ℤ total v (map (divided (suc g)) l) ≡ total v l
+pub total_divided : (v : ℕ → ℤ) (g : ℕ) (l : List Multiple) → Divides (suc g) l → pos (suc g) *ℤ total v (map (divided (suc g)) l) ≡ total v l
 unfolding total divided
 total_divided v g [] d = omega (arith, ints)
 total_divided v g (t ∷ l) d =

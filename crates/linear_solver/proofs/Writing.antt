@@ -1,18 +1,18 @@
 -- Atoms as inequalities.
-use Rattle.std.proofs.Common.{◌≡◌, ◌∙◌, sym, ap, ap₂, subst, refl, arith, ℕ, zero, suc, ◌+◌, ◌*◌, ◌^◌, ◌<◌, ◌≤◌, List, [], ◌∷◌, ◌++◌, length, map, drop, get_or, All, ℤ, pos, negsuc, ◌+ℤ◌, ◌-ℤ◌, ◌*ℤ◌, unsigned_abs, SFits, FitsSigned, to_z, of_z}
-use Rattle.std.proofs.lemmas.Int.{ints, to_z-of_z, unsigned_abs-mul}
+use Rattle.std.proofs.Common.{◌≡◌, ◌∙◌, sym, ap, ap₂, subst, refl, arith, ℕ, zero, suc, ◌+◌, ◌*◌, ◌^◌, ◌<◌, ◌≤◌, List, [], ◌∷◌, ◌++◌, length, map, drop, get_or, All, ℤ, negsuc, ◌-ℤ◌, unsigned_abs, SFits, FitsSigned, to_z, of_z}
+use Rattle.std.proofs.lemmas.Int.{ints, to_z-of_z}
 use Rattle.std.proofs.lemmas.List.{drop_more, drop_all}
-use Rattle.std.proofs.lemmas.List.Elements.{All-weaker, All-nil, All-cons, All-tail}
+use Rattle.std.proofs.lemmas.List.Elements.{All-weaker}
 use mir.Syntax.{w128}
-use Rattle.cc_base.specs.Inequality.{Inequality, scaled, scaled_term}
+use Rattle.cc_base.specs.Inequality.{Inequality, scaled}
 use Rattle.cc_base.specs.declared.forms.Multiple.{Multiple}
-use Rattle.cc_base.specs.Groups.{Form, Atom, at_most_zero, is_zero, not_zero, form_of}
+use Rattle.cc_base.specs.Groups.{Form, form_of}
 use Rattle.cc_base.specs.Need.{at_most, at_least, disequality, disequalities}
 use Rattle.linear_solver.specs.declared.atoms.LinearAtom.{LinearAtom}
 use Rattle.linear_solver.specs.declared.atoms.Sign.{Sign}
 use Rattle.linear_solver.specs.declared.atoms.Sign.TheVariants.{AtMostZero, Zero, NotZero}
 use Rattle.linear_solver.specs.Atoms.{atom_of, seen_form, seen_atom, seen_atoms, FitForm, FitAll}
-use Rattle.linear_solver.specs.Ordered.{Ordered, Safe}
+use Rattle.linear_solver.specs.Ordered.{Safe}
 use Rattle.linear_solver.proofs.Pairing.{ordered_scaled, small_scaled}
 
 pub differs : (n k : ℤ) → SFits w128 n → SFits w128 k → unsigned_abs n ≤ 1 → unsigned_abs k ≤ 2 ^ 72 + 2 ^ 33 → to_z w128 (of_z w128 (to_z w128 (of_z w128 n) -ℤ to_z w128 (of_z w128 k))) ≡ n -ℤ k

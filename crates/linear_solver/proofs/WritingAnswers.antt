@@ -1,20 +1,19 @@
 -- The steps of writing answers, and of the loops over parts and atoms.
-use Rattle.std.proofs.Common.{◌≡◌, ◌≢◌, ◌∙◌, sym, ap, ap₂, subst, refl, arith, ℕ, zero, suc, ◌+◌, ◌<◌, ◌≤◌, Bool, true, false, ◌||◌, ◌⊎◌, inl, inr, nat_eq, List, [], ◌∷◌, ◌++◌, length, map, reverse, set, take, drop, get_or, append_assoc, append-nil, All, Option, Some, None, ℤ, if◌then◌else◌, Vec, Global}
+use Rattle.std.proofs.Common.{◌≡◌, ◌≢◌, ◌∙◌, sym, ap, subst, refl, arith, ℕ, zero, suc, ◌+◌, ◌<◌, ◌≤◌, Bool, true, false, ◌||◌, inl, inr, nat_eq, List, [], ◌∷◌, ◌++◌, length, map, reverse, set, take, drop, get_or, append_assoc, append-nil, All, Option, Some, None, ℤ, if◌then◌else◌, Vec, Global}
 use Rattle.std.proofs.lemmas.List.{take_more, take_all, get_or-set_same, get_or-set_other, length-set, take-append-drop, map-append}
 use Rattle.std.proofs.lemmas.List.Elements.{All-nil, All-cons}
 use borrow.Author.Tests.{eqb-true, eq-eqb}
 use Rattle.cc_base.specs.declared.forms.Multiple.{Multiple}
-use Rattle.cc_base.specs.Groups.{Form, Atom, form_of, contains, named, put, put_all, places_in, shares, parts, atoms_on, placeless, groups_of, groups}
-use Rattle.cc_base.specs.Need.{need}
+use Rattle.cc_base.specs.Groups.{Form, Atom, form_of, contains, named, put_all, places_in, shares, parts, atoms_on, placeless, groups_of, groups}
 use Rattle.cc_base.specs.Solve.{Refuted, SomeRefuted}
 use Rattle.linear_solver.specs.declared.atoms.LinearAtom.{LinearAtom}
 use Rattle.linear_solver.specs.Answers.{Advanced, PartAdvanced, AloneAdvanced, Below, BelowAll}
 use Rattle.linear_solver.specs.Atoms.{seen_form, seen_atom, seen_atoms, FitForm, FitAll}
-use Rattle.linear_solver.specs.Parts.{Wrote, answered, backwards, all_backwards}
-use Rattle.linear_solver.specs.Standing.{OutOf, Member, Good, AllGood, Stands, Left}
+use Rattle.linear_solver.specs.Parts.{Wrote, backwards, all_backwards}
+use Rattle.linear_solver.specs.Standing.{Member, Stands}
 use Rattle.linear_solver.proofs.Assembling.{values_stand, beyond_stand, empty_stands, alone_values, alone_beyond, groups_last, part_named}
 use Rattle.linear_solver.proofs.Integers.{bool_cases}
-use Rattle.linear_solver.proofs.Parting.{In, Disjoint, AllInside, parts_disjoint, parts_cover, out_member, contains_append, contains_reverse, put_out, all_out}
+use Rattle.linear_solver.proofs.Parting.{In, Disjoint, parts_disjoint, parts_cover, out_member, contains_append, contains_reverse, put_out, all_out}
 use Rattle.linear_solver.proofs.PartSteps.{back_drop}
 use Rattle.std.proofs.Common.{SFits, to_z, of_z, replicate}
 use Rattle.std.proofs.lemmas.Int.{to_z-of_z}
@@ -24,7 +23,6 @@ use Rattle.linear_solver.specs.Seen.{at_places}
 use Rattle.linear_solver.specs.Settled.{Settles}
 use Rattle.linear_solver.specs.declared.group.GroupAnswer.TheVariants.{Values, Beyond}
 use Rattle.linear_solver.proofs.Writing.{seen_form_is}
-use Rattle.linear_solver.proofs.Tidied.{or_true}
 
 or_last : (a : Bool) → a || false ≡ a
 or_last true = refl

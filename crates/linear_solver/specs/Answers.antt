@@ -1,5 +1,5 @@
 -- What the solver's answers mean.
-use Rattle.std.specs.Prelude.{ℕ, ℤ, pos, ◌≤◌, ◌<◌, ◌≡◌, ◌⊎◌, ◌≤ℤ◌, Bool, true, false, List, [], ◌∷◌, length, get_or, nat_eq, Option, Some, None}
+use Rattle.std.specs.Prelude.{ℕ, ℤ, ◌≤◌, ◌<◌, ◌≡◌, ◌⊎◌, ◌≤ℤ◌, Bool, true, false, List, [], ◌∷◌, length, get_or, nat_eq, Option, Some, None}
 use Rattle.cc_base.specs.declared.forms.Multiple.{Multiple}
 use Rattle.cc_base.specs.Groups.{Atom, HoldAll, Between, contains, form_of, places_in, atoms_on}
 use Rattle.cc_base.specs.Need.{need}

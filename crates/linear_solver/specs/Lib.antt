@@ -5,9 +5,11 @@ pub mod Ordered
 pub mod Sides
 pub mod Ranks
 pub mod Trail
+pub mod Bounded
 pub mod Atoms
 pub mod Spans
 pub mod Settled
 pub mod Parts
 pub mod Answers
 pub mod Standing
+pub mod Chains

@@ -1,11 +1,8 @@
 -- The parts as the code has them: each has its last place first.
-use Rattle.std.specs.Prelude.{ℕ, ℤ, pos, ◌≤◌, ◌<◌, ◌≡◌, ◌⊎◌, ◌≤ℤ◌, Bool, true, false, List, [], ◌∷◌, map, reverse, length, get_or, Option, Some, None, if◌then◌else◌}
+use Rattle.std.specs.Prelude.{ℕ, ℤ, pos, ◌≡◌, List, map, reverse, length, get_or, Option, Some, None, if◌then◌else◌}
 use Rattle.std.specs.declared.vec.Vec.{Vec}
 use Rattle.std.specs.declared.alloc.Global.{Global}
-use Rattle.cc_base.specs.Groups.{Atom, HoldAll, Between, contains, places_in}
-use Rattle.cc_base.specs.Need.{need}
-use Rattle.cc_base.specs.Solve as plain
-use Rattle.linear_solver.specs.Seen.{at_places}
+use Rattle.cc_base.specs.Groups.{contains}
 
 abbrev pub backwards : Vec ℕ Global → List ℕ
 backwards c = reverse c.items

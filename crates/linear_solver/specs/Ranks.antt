@@ -1,5 +1,5 @@
 -- The order in which places are taken out.
-use Rattle.std.specs.Prelude.{ℕ, ◌≡◌, Bool, true, false, List, [], ◌∷◌, nat_eq, nat_lt, ◌||◌, ◌&&◌, All, pos}
+use Rattle.std.specs.Prelude.{ℕ, ◌≡◌, Bool, false, List, [], ◌∷◌, nat_eq, nat_lt, ◌||◌, ◌&&◌, All, pos}
 use Rattle.cc_base.specs.Inequality.{Inequality}
 use Rattle.cc_base.specs.Pass.{slack, pairs, better}
 use Rattle.cc_base.specs.declared.forms.Multiple.{Multiple}

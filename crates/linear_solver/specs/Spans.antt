@@ -1,5 +1,5 @@
 -- The numbers at which atoms of one place may hold.
-use Rattle.std.specs.Prelude.{ℕ, ◌+◌, ◌<◌, ◌≡◌, ℤ, pos, ◌+ℤ◌, ◌*ℤ◌, ◌≤ℤ◌, List, [], ◌∷◌, Option, Some, None}
+use Rattle.std.specs.Prelude.{ℕ, ◌<◌, ◌≡◌, Bool, true, false, get_or, ℤ, pos, ◌+ℤ◌, ◌*ℤ◌, ◌≤ℤ◌, List, [], ◌∷◌, Option, Some, None}
 use Rattle.std.specs.declared.vec.Vec.{Vec}
 use Rattle.std.specs.declared.alloc.Global.{Global}
 use Rattle.cc_base.specs.declared.forms.Multiple.{Multiple}
@@ -48,3 +48,11 @@ pub record Counted (s : Span) (n : ℕ) : Type 0 where
 abbrev pub TriedAt : ℕ → ℤ → List Atom → Option (Vec ℤ Global) → Type 0
 TriedAt x z l None = HoldAll (changed origin x z) l → ⊥
 TriedAt x z l (Some v) = (at_places v.items ≡ changed origin x z) × HoldAll (at_places v.items) l
+
+-- the atom doesn't hold where the place has the number that lies n from l
+abbrev pub Excludes : ℕ → ℤ → Atom → ℕ → Type 0
+Excludes x l a n = Holds (changed origin x (l +ℤ pos n)) a → ⊥
+
+-- the atoms don't all hold where the place has a marked number; the marks are by the distance from l
+abbrev pub ExcludesOnly : ℕ → ℤ → List Atom → List Bool → Type 0
+ExcludesOnly x l a m = (k : ℕ) → get_or m k false ≡ true → HoldAll (changed origin x (l +ℤ pos k)) a → ⊥

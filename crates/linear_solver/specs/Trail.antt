@@ -1,9 +1,9 @@
 -- The turns of a pass, and the values that lead back from its end.
-use Rattle.std.specs.Prelude.{ℕ, zero, suc, ℤ, pos, negsuc, neg_ℤ, ◌≤ℤ◌, ◌≡◌, Option, Some, None, List, [], ◌∷◌}
+use Rattle.std.specs.Prelude.{ℕ, zero, suc, ℤ, pos, neg_ℤ, Option, Some, None, List, [], ◌∷◌}
 use Rattle.cc_base.specs.Inequality.{Inequality, floor, coefficient}
-use Rattle.cc_base.specs.Pass.{ended, going, ready, eliminate, lowers, uppers}
+use Rattle.cc_base.specs.Pass.{ended, going, ready, eliminate}
 use Rattle.cc_base.specs.declared.passes.Mode.{Mode}
-use Rattle.cc_base.specs.Witness.{Turn, unwound, origin, value_for, larger, smaller, left}
+use Rattle.cc_base.specs.Witness.{Turn, larger, smaller, left}
 use Rattle.linear_solver.specs.Ordered.{NarrowAll}
 use Rattle.linear_solver.specs.declared.slack.Side.{Side}
 use Rattle.linear_solver.specs.declared.slack.Side.TheVariants.{Neither, Lower, Upper}

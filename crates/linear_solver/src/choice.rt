@@ -5,6 +5,7 @@ ghost use Rattle.cc_base.specs.Need.{one_choice, by_dark, tried, disequalities};
 ghost use Rattle.cc_base.specs.Pass.{pass};
 ghost use Rattle.cc_base.specs.declared.passes.Mode.TheVariants.{Dark};
 ghost use Rattle.linear_solver.specs.Atoms.{seen_atoms, FitAll};
+ghost use Rattle.linear_solver.specs.Bounded.{Bounded, BoundedWith};
 ghost use Rattle.linear_solver.specs.Counts.{tried_count, seen_tried, FoundMeets, Keeps, opened};
 ghost use Rattle.linear_solver.specs.Ordered.{SafeAll};
 ghost use Rattle.linear_solver.specs.Seen.{seen_all};
@@ -40,6 +41,7 @@ fn dark_choice(
     requires places { n < 2 ^ 62 }
     requires within { used ≤ budget }
     requires safe { SafeAll (seen_all list.now) }
+    requires bounded { Bounded (seen_all list.now) }
     ensures count { IfOk result (λ r. seen_tried r ≡ tried_count used budget (by_dark 0 (pass Dark n (seen_all list.now)))) }
     ensures values { IfOk result (λ r. FoundMeets r (seen_all list.now) []) }
 {
@@ -73,6 +75,7 @@ fn one_choice_of(
     requires places { n < 2 ^ 62 }
     requires within { used ≤ budget }
     requires safe { SafeAll (seen_all list.now) }
+    requires bounded { Bounded (seen_all list.now) }
     ensures count { IfOk result (λ r. seen_tried r ≡ tried_count used budget (one_choice n (seen_all list.now))) }
     ensures values { IfOk result (λ r. FoundMeets r (seen_all list.now) []) }
 {
@@ -122,6 +125,7 @@ pub fn tried_of(
     requires within { used ≤ budget }
     requires safe { SafeAll (seen_all list.now) }
     requires fit { FitAll (seen_atoms atoms.now) }
+    requires bounded { BoundedWith (seen_atoms atoms.now) (seen_all list.now) }
     ensures count { IfOk result (λ r. seen_tried r ≡ tried_count used budget (tried n (seen_all list.now) (disequalities (seen_atoms (drop from atoms.now))))) }
     ensures values { IfOk result (λ r. FoundMeets r (seen_all list.now) (disequalities (seen_atoms (drop from atoms.now)))) }
 {

@@ -20,6 +20,8 @@ pub mod ready;
 pub mod restore;
 pub mod slack;
 pub mod solve;
+#[cfg(test)]
+mod table;
 pub mod tidy;
 
 pub use atoms::{LinearAtom, Sign};

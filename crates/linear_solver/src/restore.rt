@@ -1,9 +1,10 @@
 //! The values of a dark pass, found backwards.
 
-ghost use Rattle.std.specs.Prelude.{◌≡◌, ◌<◌, ◌≤◌, ◌^◌, ◌*ℤ◌, pos, neg_ℤ, ◌<ℤ◌, unsigned_abs, IfOk, OnOk, List, vec_len};
+ghost use Rattle.std.specs.Prelude.{◌≡◌, ◌<◌, ◌≤◌, ◌^◌, ◌*ℤ◌, ◌≤ℤ◌, pos, negsuc, neg_ℤ, ◌<ℤ◌, unsigned_abs, IfOk, OnOk, List, vec_len};
 ghost use Rattle.cc_base.specs.Inequality.{coefficient, floor};
 ghost use Rattle.cc_base.specs.Pass.{lowers, uppers};
 ghost use Rattle.cc_base.specs.Witness.{value_for, unwound, origin, changed, left, larger, smaller};
+ghost use Rattle.linear_solver.specs.Bounded.{Fitting};
 ghost use Rattle.linear_solver.specs.Ordered.{Narrow, NarrowAll};
 ghost use Rattle.linear_solver.specs.Seen.{seen, seen_all, seen_turns, at_places};
 ghost use Rattle.linear_solver.specs.Sides.{side};
@@ -172,23 +173,19 @@ pub fn value_of(place: u32, list: &[Inequality], values: &[i32]) -> i128
     first(room)
 }
 
-/// A number as one of 32 bits. The places are bounded by 32-bit numbers in each list, so that the values of a dark
-/// pass that ends full are too; another one is refused, as if memory were wanting.
-fn narrow(z: i128) -> Result<i32, AllocError>
-    ensures { IfOk result (λ r. r ≡ z) }
+/// A number as one of 32 bits.
+fn narrow(z: i128) -> i32
+    requires low { negsuc 2147483647 ≤ℤ z }
+    requires high { z ≤ℤ pos 2147483647 }
+    ensures { result ≡ z }
 {
-    if z < i32::MIN as i128 {
-        return Err(AllocError);
-    }
-    if z > i32::MAX as i128 {
-        return Err(AllocError);
-    }
-    Ok(z as i32)
+    z as i32
 }
 
 /// The values by the turns, backwards from 0.
 pub fn restore(alloc: Global, trail: &[Step]) -> Result<Vec<i32>, AllocError>
-    requires { Sound (seen_turns trail.now) }
+    requires sound { Sound (seen_turns trail.now) }
+    requires fitting { Fitting (seen_turns trail.now) }
     ensures { IfOk result (λ r. at_places r.items ≡ unwound (seen_turns trail.now) origin) }
 {
     let mut values = Vec::new(alloc);
@@ -197,7 +194,7 @@ pub fn restore(alloc: Global, trail: &[Step]) -> Result<Vec<i32>, AllocError>
         left -= 1;
         let step = &trail[left];
         let value = value_of(step.place, &step.list, &values);
-        put_value(&mut values, step.place, narrow(value)?)?;
+        put_value(&mut values, step.place, narrow(value))?;
     }
     Ok(values)
 }

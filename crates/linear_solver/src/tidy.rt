@@ -1,7 +1,8 @@
 //! Lists made normal: of the inequalities with equal terms the least bound is kept.
 
-ghost use Rattle.std.specs.Prelude.{◌≡◌, ◌<◌, ◌^◌, IfOk, OnOk, List, [], ◌∷◌};
+ghost use Rattle.std.specs.Prelude.{◌≡◌, ◌<◌, ◌≤◌, ◌^◌, ℕ, IfOk, OnOk, IfSome, IfNone, List, [], ◌∷◌, length, vec_len};
 ghost use Rattle.cc_base.specs.Pass.{same_terms, kept, tidy, wide_term, too_wide, some_wide, is_false, some_false, with_terms, lesser};
+ghost use Rattle.linear_solver.specs.Chains.{mix, bucket, terms_at, Chained, IsChained};
 ghost use Rattle.linear_solver.specs.Ordered.{SafeAll};
 ghost use Rattle.linear_solver.specs.Seen.{seen, seen_all, with_most};
 
@@ -14,6 +15,8 @@ use std::alloc::{AllocError, Global};
 const COEFFICIENT_LIMIT: u128 = 1 << 44;
 /// The greatest absolute value of a bound that is not too wide.
 const MOST_LIMIT: u128 = 1 << 80;
+/// What the numbers of terms are below, by which buckets are chosen.
+const NUMBER_LIMIT: u64 = 1 << 32;
 
 fn same_numbers(t: Multiple, u: Multiple) -> bool
     ensures { result ≡ same_terms (t ∷ []) (u ∷ []) }
@@ -48,19 +51,88 @@ fn lower(i: &mut Inequality, most: i128)
     }
 }
 
-/// Adds an inequality to a list of different ones.
-fn keep(list: &mut Vec<Inequality>, i: Inequality) -> Result<(), AllocError>
-    ensures { OnOk result (seen_all list.new.items ≡ kept (seen i) (seen_all list.old.items)) }
+/// Different inequalities, chained by the buckets of their terms.
+#[derive(Debug, Drop)]
+pub struct Kept {
+    pub list: Vec<Inequality>,
+    /// For each bucket, one more than the index of its last inequality; 0 where it has none.
+    pub last: Vec<usize>,
+    /// For each inequality, one more than the index of the one before it in its bucket; 0 where it is the first.
+    pub before: Vec<usize>,
+}
+
+/// The number of some terms, by that of those before the last.
+fn mix_term(number: u64, t: Multiple) -> u64
+    requires { number < 2 ^ 32 }
+    ensures value { result ≡ mix number t }
+    ensures bound { result < 2 ^ 32 }
 {
-    for k in 0..list.len() {
-        if has_same_terms(&i.terms, &list[k].terms) {
-            lower(&mut list[k], i.most);
-            drop(i);
-            return Ok(());
-        }
+    let size = (t.coefficient.unsigned_abs() % NUMBER_LIMIT as u128) as u64;
+    (number * 1_000_003 + t.place as u64 * 31 + size) % NUMBER_LIMIT
+}
+
+/// The bucket of terms, of `count` buckets.
+fn bucket_of(terms: &[Multiple], count: usize) -> usize
+    requires { 0 < count }
+    ensures value { result ≡ bucket count terms.now }
+    ensures bound { result < count }
+{
+    let mut number = 0;
+    for t in terms {
+        number = mix_term(number, *t);
     }
-    list.push(i)?;
+    (number % count as u64) as usize
+}
+
+/// The index of the inequality that has these terms.
+fn find(kept: &Kept, terms: &[Multiple], at_bucket: usize) -> Option<usize>
+    requires chained { IsChained kept.now }
+    requires bucket { at_bucket ≡ bucket (length kept.now.last.items) terms.now }
+    requires bound { at_bucket < length kept.now.last.items }
+    ensures some { IfSome result (λ k. (k < length kept.now.list.items) × (terms_at (seen_all kept.now.list.items) k ≡ terms.now)) }
+    ensures none { IfNone result ((j : ℕ) → j < length kept.now.list.items → terms_at (seen_all kept.now.list.items) j ≡ terms.now → ⊥) }
+{
+    let mut at = kept.last[at_bucket];
+    'chain: while at > 0 {
+        let index = at - 1;
+        if has_same_terms(terms, &kept.list[index].terms) {
+            return Some(index);
+        }
+        at = kept.before[index];
+    }
+    None
+}
+
+/// Adds an inequality to different ones.
+fn keep(all: &mut Kept, i: Inequality) -> Result<(), AllocError>
+    requires { IsChained all.old }
+    ensures chained { OnOk result (IsChained all.new) }
+    ensures list { OnOk result (seen_all all.new.list.items ≡ kept (seen i) (seen_all all.old.list.items)) }
+{
+    let at_bucket = bucket_of(&i.terms, all.last.len());
+    if let Some(index) = find(all, &i.terms, at_bucket) {
+        lower(&mut all.list[index], i.most);
+        drop(i);
+        return Ok(());
+    }
+    let last = all.last[at_bucket];
+    all.before.push(last)?;
+    all.list.push(i)?;
+    all.last[at_bucket] = all.list.len();
     Ok(())
+}
+
+/// No inequalities, with `count` buckets.
+fn no_kept(alloc: Global, count: usize) -> Result<Kept, AllocError>
+    requires { 0 < count }
+    ensures chained { IfOk result IsChained }
+    ensures list { IfOk result (λ k. k.list.items ≡ []) }
+{
+    Ok(Kept {
+        list: Vec::new(alloc),
+        last: vec![in alloc; 0; count]?,
+        before: Vec::new(alloc),
+    })
 }
 
 /// A list made normal.
@@ -69,13 +141,13 @@ pub fn tidy_of(alloc: Global, list: Vec<Inequality>) -> Result<Vec<Inequality>, 
     ensures { IfOk result (λ r. seen_all r.items ≡ tidy (seen_all list.items)) }
 {
     let mut rest = list;
-    let mut out = Vec::new(alloc);
+    let mut out = no_kept(alloc, rest.len() + 1)?;
     'kept: while let Some(next) = rest.pop() {
         let mut i = next;
         normalise(&mut i);
         keep(&mut out, i)?;
     }
-    Ok(out)
+    Ok(out.list)
 }
 
 fn has_wide_term(terms: &[Multiple]) -> bool

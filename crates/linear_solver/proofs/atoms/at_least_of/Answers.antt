@@ -1,5 +1,4 @@
-use Rattle.std.proofs.Common.{◌≡◌, ◌∙◌, ap, ap₂, sym, subst, rules, SFits, List, ◌++◌, ℤ, pos, negsuc, to_z, of_z, All, ◌≤◌, ◌^◌, unsigned_abs, refl}
-use Rattle.std.proofs.lemmas.Int.{to_z-of_z}
+use Rattle.std.proofs.Common.{◌∙◌, ap₂, sym, subst, rules, SFits, List, ◌++◌, negsuc, All, ◌≤◌, ◌^◌, unsigned_abs}
 use mir.Syntax.{w128}
 use Rattle.cc_base.specs.Inequality.{scaled}
 use Rattle.cc_base.specs.declared.forms.Multiple.{Multiple}

@@ -1,4 +1,4 @@
-use Rattle.std.proofs.Common.{◌≡◌, ◌∙◌, rules, SFits}
+use Rattle.std.proofs.Common.{rules, SFits}
 use mir.Syntax.{w128}
 use Rattle.linear_solver.specs.Atoms.{seen_form}
 use Rattle.linear_solver.proofs.Writing.{differs, fits_difference, at_most_is}

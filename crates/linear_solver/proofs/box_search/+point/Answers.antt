@@ -1,10 +1,9 @@
-use Rattle.std.proofs.Common.{◌≡◌, ◌∙◌, sym, ap, ap₂, subst, rules, arith, ℕ, ℤ, pos, ◌+ℤ◌, ◌≤ℤ◌, ◌+◌, ◌/◌, ◌%◌, ◌<◌, ◌≤◌, List, drop, length, get_or, SFits, to_z, of_z}
+use Rattle.std.proofs.Common.{◌≡◌, ◌∙◌, sym, ap, ap₂, subst, rules, arith, ℕ, ℤ, pos, ◌+ℤ◌, ◌≤ℤ◌, ◌+◌, ◌/◌, ◌%◌, ◌<◌, ◌≤◌, List, drop, length, get_or, SFits}
 use Rattle.std.proofs.lemmas.Int.{to_z-of_z}
 use Rattle.std.proofs.lemmas.List.{drop_more, drop_all}
 use mir.Syntax.{w32}
 use Rattle.cc_base.specs.Witness.{changed, origin}
 use Rattle.linear_solver.specs.Box.{decoded}
-use Rattle.linear_solver.specs.Seen.{at_places}
 use Rattle.linear_solver.proofs.Restoring.{at_none}
 use Rattle.linear_solver.proofs.box_search.+point.Goals as goal
 

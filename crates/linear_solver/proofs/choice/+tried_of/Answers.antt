@@ -1,18 +1,21 @@
-use Rattle.std.proofs.Common.{◌≡◌, ◌∙◌, sym, ap, ap₂, subst, refl, rules, arith, ℕ, ℤ, pos, negsuc, ◌+◌, ◌<◌, ◌≤◌, List, [], ◌∷◌, drop, length, get_or}
+use Rattle.std.proofs.Common.{◌≡◌, ◌∙◌, sym, ap, subst, rules, arith, pos, negsuc, ◌+◌, ◌<◌, List, ◌∷◌, drop, length}
 use Rattle.cc_base.specs.Groups.{Form}
 use Rattle.cc_base.specs.Inequality as plain
 use Rattle.cc_base.specs.Need.{tried, disequalities, at_most, at_least, found, closed, open_choice}
-use Rattle.linear_solver.specs.declared.atoms.Sign.{Sign}
 use Rattle.linear_solver.specs.declared.atoms.Sign.TheVariants.{AtMostZero, Zero, NotZero}
 use Rattle.linear_solver.specs.declared.choice.Tried.{Tried}
-use Rattle.linear_solver.specs.declared.inequalities.Inequality.{Inequality}
-use Rattle.linear_solver.specs.Atoms.{seen_form, seen_atoms, FitForm}
-use Rattle.linear_solver.specs.Counts.{tried_count, seen_tried, FoundMeets, beyond, within, opened}
+use Rattle.linear_solver.specs.Atoms.{seen_form, seen_atoms}
+use Rattle.linear_solver.specs.Bounded.{BoundedWith}
+use Rattle.linear_solver.specs.Counts.{tried_count, seen_tried, FoundMeets, beyond, within}
 use Rattle.linear_solver.specs.Ordered.{SafeAll}
-use Rattle.linear_solver.specs.Seen.{seen, seen_all}
+use Rattle.linear_solver.specs.Seen.{seen_all}
+use Rattle.linear_solver.proofs.Bounding.{bounded_at_most, bounded_at_least, bounded_of}
 use Rattle.linear_solver.proofs.Choosing.{sides_beyond, sides_found, sides_closed, sides_open, closed_within, open_within, tried_none, under_meets, over_meets}
 use Rattle.linear_solver.proofs.Writing.{fit_at, no_disequality, one_disequality, last_disequality, safe_at_most, safe_at_least}
 use Rattle.linear_solver.proofs.choice.+tried_of.Goals as goal
+
+pub one_choice_of-requires-clause-bounded : goal.one_choice_of-requires-clause-bounded
+one_choice_of-requires-clause-bounded t c = bounded_of (seen_atoms c.args.atoms.now) (seen_all c.args.list.now) c.requires.bounded
 
 pub returns-then-from-atoms-clause-count : goal.returns-then-from-atoms-clause-count
 returns-then-from-atoms-clause-count t c =
@@ -54,7 +57,7 @@ pub tried_of-requires-in-NotZero : goal.tried_of-requires-in-NotZero
 tried_of-requires-in-NotZero t c =
     let b : seen_all c.deref.result.now ≡ at_most (seen_form c.index-atoms-from.result) (negsuc 0) ∷ seen_all c.args.list.now =
     ap seen_all c.deref.ensures.value ∙ c.in_ok-below-in-NotZero.ensures ∙ ap (λ (i : plain.Inequality). i ∷ seen_all c.args.list.now) c.in_ok-at_most_of-in-NotZero.ensures in
-    (search rules, (c.requires.places, (c.requires.within, (subst (λ (l : List plain.Inequality). SafeAll l) (sym b) (safe_at_most (seen_form c.index-atoms-from.result) (negsuc 0) (fit_at c.args.atoms.now c.args.from c.index-atoms-from.result c.requires.fit (let h = c.if-from-atoms.false in let g : c.args.from < length c.args.atoms.now = omega (arith, h) in g) c.index-atoms-from.is), c.requires.safe), c.requires.fit))))
+    (search rules, (c.requires.places, (c.requires.within, (subst (λ (l : List plain.Inequality). SafeAll l) (sym b) (safe_at_most (seen_form c.index-atoms-from.result) (negsuc 0) (fit_at c.args.atoms.now c.args.from c.index-atoms-from.result c.requires.fit (let h = c.if-from-atoms.false in let g : c.args.from < length c.args.atoms.now = omega (arith, h) in g) c.index-atoms-from.is), c.requires.safe), (c.requires.fit, subst (λ (l : List plain.Inequality). BoundedWith (seen_atoms c.args.atoms.now) l) (sym b) (bounded_at_most c.args.atoms.now c.args.from c.index-atoms-from.result (negsuc 0) (seen_all c.args.list.now) (let h = c.if-from-atoms.false in let g : c.args.from < length c.args.atoms.now = omega (arith, h) in g) c.index-atoms-from.is c.requires.bounded))))))
 
 pub returns-in-Beyond-clause-count : goal.returns-in-Beyond-clause-count
 returns-in-Beyond-clause-count t c =
@@ -89,7 +92,7 @@ tried_of-requires-in-Closed t c =
     ap seen_all c.deref-in-Closed.ensures.value ∙ c.in_ok-above-in-Closed.ensures ∙ ap (λ (i : plain.Inequality). i ∷ seen_all c.args.list.now) c.in_ok-at_least_of-in-Closed.ensures in
     let u : within (closed c.in-Closed.spent) ≡ tried_count c.args.used c.args.budget (tried c.args.n (at_most (seen_form c.index-atoms-from.result) (negsuc 0) ∷ seen_all c.args.list.now) (disequalities (seen_atoms (drop (c.args.from + 1) c.args.atoms.now)))) =
     sym (ap seen_tried c.in-Closed.is) ∙ c.in_ok-tried_of-in-NotZero.ensures.count ∙ ap (λ (l : List plain.Inequality). tried_count c.args.used c.args.budget (tried c.args.n l (disequalities (seen_atoms (drop (c.args.from + 1) c.args.atoms.now))))) b in
-    (search rules, (c.requires.places, (closed_within c.args.used c.args.budget c.in-Closed.spent (tried c.args.n (at_most (seen_form c.index-atoms-from.result) (negsuc 0) ∷ seen_all c.args.list.now) (disequalities (seen_atoms (drop (c.args.from + 1) c.args.atoms.now)))) u, (subst (λ (l : List plain.Inequality). SafeAll l) (sym a) (safe_at_least (seen_form c.index-atoms-from.result) (pos 1) (fit_at c.args.atoms.now c.args.from c.index-atoms-from.result c.requires.fit (let h = c.if-from-atoms.false in let g : c.args.from < length c.args.atoms.now = omega (arith, h) in g) c.index-atoms-from.is), c.requires.safe), c.requires.fit))))
+    (search rules, (c.requires.places, (closed_within c.args.used c.args.budget c.in-Closed.spent (tried c.args.n (at_most (seen_form c.index-atoms-from.result) (negsuc 0) ∷ seen_all c.args.list.now) (disequalities (seen_atoms (drop (c.args.from + 1) c.args.atoms.now)))) u, (subst (λ (l : List plain.Inequality). SafeAll l) (sym a) (safe_at_least (seen_form c.index-atoms-from.result) (pos 1) (fit_at c.args.atoms.now c.args.from c.index-atoms-from.result c.requires.fit (let h = c.if-from-atoms.false in let g : c.args.from < length c.args.atoms.now = omega (arith, h) in g) c.index-atoms-from.is), c.requires.safe), (c.requires.fit, subst (λ (l : List plain.Inequality). BoundedWith (seen_atoms c.args.atoms.now) l) (sym a) (bounded_at_least c.args.atoms.now c.args.from c.index-atoms-from.result (pos 1) (seen_all c.args.list.now) (let h = c.if-from-atoms.false in let g : c.args.from < length c.args.atoms.now = omega (arith, h) in g) c.index-atoms-from.is c.requires.bounded))))))
 
 pub returns-in-Closed-clause-count : goal.returns-in-Closed-clause-count
 returns-in-Closed-clause-count t c =
@@ -120,7 +123,7 @@ tried_of-requires-in-Undecided t c =
     ap seen_all c.deref-in-Undecided.ensures.value ∙ c.in_ok-above-in-Undecided.ensures ∙ ap (λ (i : plain.Inequality). i ∷ seen_all c.args.list.now) c.in_ok-at_least_of-in-Undecided.ensures in
     let u : within (open_choice c.in-Undecided.spent) ≡ tried_count c.args.used c.args.budget (tried c.args.n (at_most (seen_form c.index-atoms-from.result) (negsuc 0) ∷ seen_all c.args.list.now) (disequalities (seen_atoms (drop (c.args.from + 1) c.args.atoms.now)))) =
     sym (ap seen_tried c.in-Undecided.is) ∙ c.in_ok-tried_of-in-NotZero.ensures.count ∙ ap (λ (l : List plain.Inequality). tried_count c.args.used c.args.budget (tried c.args.n l (disequalities (seen_atoms (drop (c.args.from + 1) c.args.atoms.now))))) b in
-    (search rules, (c.requires.places, (open_within c.args.used c.args.budget c.in-Undecided.spent (tried c.args.n (at_most (seen_form c.index-atoms-from.result) (negsuc 0) ∷ seen_all c.args.list.now) (disequalities (seen_atoms (drop (c.args.from + 1) c.args.atoms.now)))) u, (subst (λ (l : List plain.Inequality). SafeAll l) (sym a) (safe_at_least (seen_form c.index-atoms-from.result) (pos 1) (fit_at c.args.atoms.now c.args.from c.index-atoms-from.result c.requires.fit (let h = c.if-from-atoms.false in let g : c.args.from < length c.args.atoms.now = omega (arith, h) in g) c.index-atoms-from.is), c.requires.safe), c.requires.fit))))
+    (search rules, (c.requires.places, (open_within c.args.used c.args.budget c.in-Undecided.spent (tried c.args.n (at_most (seen_form c.index-atoms-from.result) (negsuc 0) ∷ seen_all c.args.list.now) (disequalities (seen_atoms (drop (c.args.from + 1) c.args.atoms.now)))) u, (subst (λ (l : List plain.Inequality). SafeAll l) (sym a) (safe_at_least (seen_form c.index-atoms-from.result) (pos 1) (fit_at c.args.atoms.now c.args.from c.index-atoms-from.result c.requires.fit (let h = c.if-from-atoms.false in let g : c.args.from < length c.args.atoms.now = omega (arith, h) in g) c.index-atoms-from.is), c.requires.safe), (c.requires.fit, subst (λ (l : List plain.Inequality). BoundedWith (seen_atoms c.args.atoms.now) l) (sym a) (bounded_at_least c.args.atoms.now c.args.from c.index-atoms-from.result (pos 1) (seen_all c.args.list.now) (let h = c.if-from-atoms.false in let g : c.args.from < length c.args.atoms.now = omega (arith, h) in g) c.index-atoms-from.is c.requires.bounded))))))
 
 pub returns-clause-count : goal.returns-clause-count
 returns-clause-count t c =

@@ -1,12 +1,11 @@
-use Rattle.std.proofs.Common.{◌≡◌, ◌∙◌, sym, ap, subst, refl, arith, ℕ, ◌≤◌, List}
+use Rattle.std.proofs.Common.{◌∙◌, sym, ap, subst, List}
 use Rattle.cc_base.specs.Inequality as plain
 use Rattle.cc_base.specs.Pass.{pass}
 use Rattle.cc_base.specs.declared.passes.Mode.TheVariants.{Real}
 use Rattle.cc_base.specs.declared.passes.PassEnd.{PassEnd}
-use Rattle.cc_base.specs.declared.passes.PassEnd.TheVariants.{Open, Empty, Full}
+use Rattle.cc_base.specs.declared.passes.PassEnd.TheVariants.{Open, Full}
 use Rattle.linear_solver.specs.Ordered.{SafeAll}
-use Rattle.linear_solver.specs.Counts.{seen_tried}
-use Rattle.linear_solver.specs.Seen.{seen_all, seen_counted, counted, over, done}
+use Rattle.linear_solver.specs.Seen.{seen_all, seen_counted, counted, done}
 use Rattle.linear_solver.proofs.Choosing.{one_over, one_empty, one_more, done_within}
 use Rattle.linear_solver.proofs.choice.one_choice_of.Goals as goal
 

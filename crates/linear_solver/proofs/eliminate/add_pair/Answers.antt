@@ -1,10 +1,9 @@
-use Rattle.std.proofs.Common.{◌≡◌, ◌∙◌, sym, ap, subst, refl, rules, arith, List, [], ◌∷◌, ◌++◌, ◌^◌, ◌≤◌}
+use Rattle.std.proofs.Common.{◌≡◌, ◌∙◌, sym, ap, subst, arith, List, [], ◌∷◌, ◌++◌, ◌^◌}
 use Rattle.cc_base.specs.Inequality as plain
 use Rattle.cc_base.specs.Inequality.{coefficient}
 use Rattle.cc_base.specs.declared.forms.Multiple.{Multiple}
 use Rattle.cc_base.specs.Pass.{paired_with, uppers}
-use Rattle.linear_solver.specs.declared.inequalities.Inequality.{Inequality}
-use Rattle.linear_solver.specs.declared.slack.Side.TheVariants.{Neither, Lower, Upper}
+use Rattle.linear_solver.specs.declared.slack.Side.TheVariants.{Neither, Upper}
 use Rattle.linear_solver.specs.Ordered.{Ordered}
 use Rattle.linear_solver.specs.Seen.{seen, seen_all}
 use Rattle.linear_solver.specs.Sides.{side}

@@ -1,4 +1,4 @@
-use Rattle.std.proofs.Common.{◌≡◌, ap, refl, List, ◌++◌}
+use Rattle.std.proofs.Common.{ap, List, ◌++◌}
 use Rattle.cc_base.specs.Inequality as plain
 use Rattle.cc_base.specs.Pass.{others}
 use Rattle.linear_solver.specs.Seen.{seen_all}

@@ -1,4 +1,4 @@
-use Rattle.std.proofs.Common.{◌≡◌, ◌∙◌, sym, ap, ap₂, subst, refl, rules, arith, ℕ, ℤ, pos, ◌+ℤ◌, ◌-ℤ◌, ◌*ℤ◌, ◌^◌, ◌≤◌, List, SFits, to_z, of_z}
+use Rattle.std.proofs.Common.{◌≡◌, ◌∙◌, ap₂, rules, arith, ℕ, ℤ, pos, ◌+ℤ◌, ◌-ℤ◌, ◌*ℤ◌, ◌^◌, ◌≤◌, List, SFits, to_z, of_z}
 use Rattle.std.proofs.lemmas.Int.{to_z-of_z, to_z_pos}
 use mir.Syntax.{w128}
 use Rattle.cc_base.specs.declared.forms.Multiple.{Multiple}

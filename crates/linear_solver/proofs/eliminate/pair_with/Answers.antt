@@ -1,4 +1,4 @@
-use Rattle.std.proofs.Common.{◌≡◌, refl, List, ◌++◌}
+use Rattle.std.proofs.Common.{refl, List, ◌++◌}
 use Rattle.cc_base.specs.Inequality as plain
 use Rattle.cc_base.specs.Pass.{paired_with, uppers}
 use Rattle.linear_solver.specs.Seen.{seen, seen_all}

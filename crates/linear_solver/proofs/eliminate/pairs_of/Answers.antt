@@ -1,4 +1,4 @@
-use Rattle.std.proofs.Common.{◌≡◌, ◌∙◌, ap, ℕ}
+use Rattle.std.proofs.Common.{◌∙◌, ap}
 use Rattle.linear_solver.specs.declared.slack.Rank.{Rank}
 use Rattle.linear_solver.proofs.Ranking.{rank_pairs}
 use Rattle.linear_solver.specs.Seen.{seen_all}

@@ -1,8 +1,7 @@
-use Rattle.std.proofs.Common.{◌≡◌, ◌∙◌, sym, ap, ap₂, refl, arith, ℕ, ℤ, pos, ◌*◌, ◌-◌, ◌^◌, ◌≤◌, ◌<◌, SFits, to_z}
+use Rattle.std.proofs.Common.{◌≡◌, ◌∙◌, sym, ap, ap₂, arith, ℕ, pos, ◌*◌, ◌-◌, ◌^◌, ◌≤◌, ◌<◌}
 use Rattle.std.proofs.lemmas.Int.{to_z_pos}
 use mir.Syntax.{w128}
 use Rattle.cc_base.specs.declared.passes.Mode.{Mode}
-use Rattle.cc_base.specs.declared.passes.Mode.TheVariants.{Real, Dark}
 use Rattle.cc_base.specs.Pass.{dark_part}
 use Rattle.linear_solver.proofs.Ranking.{product_bound}
 use Rattle.linear_solver.proofs.eliminate.taken_off.Goals as goal

@@ -1,21 +1,28 @@
-use Rattle.std.proofs.Common.{◌≡◌, ◌∙◌, sym, ap, ap₂, subst, refl, rules, arith, ℕ, ℤ, ◌≤◌, List, length, to_z, of_z, drop}
-use Rattle.std.proofs.lemmas.Int.{to_z-of_z}
+use Rattle.std.proofs.Common.{◌≡◌, ◌∙◌, sym, ap, ap₂, subst, arith, ℕ, ℤ, pos, negsuc, ◌≤ℤ◌, List, length, SFits}
+use Rattle.std.proofs.lemmas.Int.{to_z-of_z, ints}
 use mir.Syntax.{w32}
 use Rattle.cc_base.specs.Groups.{places_in}
 use Rattle.cc_base.specs.Inequality as plain
-use Rattle.cc_base.specs.Need.{first_list, tried, disequalities, elimination}
+use Rattle.cc_base.specs.Need.{first_list, tried, disequalities}
 use Rattle.cc_base.specs.Pass.{pass}
 use Rattle.cc_base.specs.declared.passes.Mode.TheVariants.{Real}
 use Rattle.cc_base.specs.declared.passes.PassEnd.{PassEnd}
-use Rattle.cc_base.specs.declared.passes.PassEnd.TheVariants.{Open, Empty, Full}
-use Rattle.linear_solver.specs.declared.inequalities.Inequality.{Inequality}
+use Rattle.cc_base.specs.declared.passes.PassEnd.TheVariants.{Open, Full}
 use Rattle.linear_solver.specs.Atoms.{seen_atoms}
+use Rattle.linear_solver.specs.Bounded.{BoundedWith}
 use Rattle.linear_solver.specs.Counts.{seen_tried, tried_count, FoundMeets}
 use Rattle.linear_solver.specs.Ordered.{SafeAll}
-use Rattle.linear_solver.specs.Seen.{seen_all, seen_counted, counted, over, done}
+use Rattle.linear_solver.specs.Seen.{seen_all, seen_counted, counted, done}
+use Rattle.linear_solver.proofs.Bounding.{first_bounded}
 use Rattle.linear_solver.proofs.Choosing.{elimination_over, elimination_empty, elimination_more, done_within}
 use Rattle.linear_solver.proofs.FirstList.{safe_first}
 use Rattle.linear_solver.proofs.elimination.elimination_of.Goals as goal
+
+least : (z : ℤ) → SFits w32 z → negsuc 2147483647 ≤ℤ z
+least z f = let s = f.sfits in omega (arith, ints, s)
+
+greatest : (z : ℤ) → SFits w32 z → z ≤ℤ pos 2147483647
+greatest z f = let s = f.sfits in omega (arith, ints, s)
 
 pub pass_of-requires-clause-safe : goal.pass_of-requires-clause-safe
 pass_of-requires-clause-safe c =
@@ -85,3 +92,13 @@ pub returns-clause-values : goal.returns-clause-values
 returns-clause-values c =
     let fe : seen_all c.in_ok-first.first.items ≡ (first_list c.args.lo c.args.hi (seen_atoms c.args.atoms.now)) = c.in_ok-first.ensures ∙ ap₂ (λ (a b : ℤ). first_list a b (seen_atoms c.args.atoms.now)) (to_z-of_z w32 c.args.lo c.ranges.lo) (to_z-of_z w32 c.args.hi c.ranges.hi) in
     subst (λ (l : List plain.Inequality). FoundMeets c.in_ok-choices-in-Open.choices l (disequalities (seen_atoms c.args.atoms.now))) (ap seen_all c.deref-in-Open.ensures.value ∙ fe) c.in_ok-choices-in-Open.ensures.values
+
+pub tried_of-requires-clause-bounded : goal.tried_of-requires-clause-bounded
+tried_of-requires-clause-bounded c =
+    let fe : seen_all c.in_ok-first.first.items ≡ (first_list c.args.lo c.args.hi (seen_atoms c.args.atoms.now)) = c.in_ok-first.ensures ∙ ap₂ (λ (a b : ℤ). first_list a b (seen_atoms c.args.atoms.now)) (to_z-of_z w32 c.args.lo c.ranges.lo) (to_z-of_z w32 c.args.hi c.ranges.hi) in
+    subst (λ (l : List plain.Inequality). BoundedWith (seen_atoms c.args.atoms.now) l) (sym (ap seen_all c.deref-in-Full.ensures.value ∙ fe)) (first_bounded c.args.lo c.args.hi (seen_atoms c.args.atoms.now) (least c.args.lo c.ranges.lo) (greatest c.args.hi c.ranges.hi))
+
+pub tried_of-requires-in-Open-clause-bounded : goal.tried_of-requires-in-Open-clause-bounded
+tried_of-requires-in-Open-clause-bounded c =
+    let fe : seen_all c.in_ok-first.first.items ≡ (first_list c.args.lo c.args.hi (seen_atoms c.args.atoms.now)) = c.in_ok-first.ensures ∙ ap₂ (λ (a b : ℤ). first_list a b (seen_atoms c.args.atoms.now)) (to_z-of_z w32 c.args.lo c.ranges.lo) (to_z-of_z w32 c.args.hi c.ranges.hi) in
+    subst (λ (l : List plain.Inequality). BoundedWith (seen_atoms c.args.atoms.now) l) (sym (ap seen_all c.deref-in-Open.ensures.value ∙ fe)) (first_bounded c.args.lo c.args.hi (seen_atoms c.args.atoms.now) (least c.args.lo c.ranges.lo) (greatest c.args.hi c.ranges.hi))

@@ -1,4 +1,4 @@
-use Rattle.std.proofs.Common.{◌≡◌, ◌∙◌, ◌++◌, ap, ap₂, refl, List, ℤ}
+use Rattle.std.proofs.Common.{◌∙◌, ◌++◌, ap, ap₂, List, ℤ}
 use Rattle.std.proofs.lemmas.Int.{to_z-of_z}
 use mir.Syntax.{w32}
 use Rattle.cc_base.specs.Inequality as plain

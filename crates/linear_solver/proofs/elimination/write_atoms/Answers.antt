@@ -1,4 +1,4 @@
-use Rattle.std.proofs.Common.{◌≡◌, ◌++◌, refl}
+use Rattle.std.proofs.Common.{◌++◌, refl}
 use Rattle.cc_base.specs.Need.{all_written}
 use Rattle.linear_solver.specs.Atoms.{seen_atoms}
 use Rattle.linear_solver.specs.Seen.{seen_all}

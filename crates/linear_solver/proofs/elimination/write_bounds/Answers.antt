@@ -1,4 +1,4 @@
-use Rattle.std.proofs.Common.{◌≡◌, ◌∙◌, ap, ℤ, pos, negsuc}
+use Rattle.std.proofs.Common.{◌∙◌, ap, ℤ, pos, negsuc}
 use Rattle.linear_solver.specs.Seen.{single}
 use Rattle.linear_solver.proofs.FirstList.{wrote_bounds, wide_number, wide_negative}
 use Rattle.linear_solver.proofs.elimination.write_bounds.Goals as goal

@@ -1,9 +1,8 @@
-use Rattle.std.proofs.Common.{◌≡◌, ◌∙◌, sym, ap, ap₂, subst, rules, arith, ℕ, ℤ, pos, ◌+ℤ◌, ◌≤ℤ◌, ◌≤◌, ◌<◌, ◌+◌, ◌*◌, ◌^◌, List, length, vec_len, SFits, to_z, of_z, true, false, inl, inr}
+use Rattle.std.proofs.Common.{◌≡◌, ◌∙◌, sym, ap, ap₂, subst, arith, ℕ, ℤ, pos, ◌+ℤ◌, ◌≤ℤ◌, ◌≤◌, ◌<◌, ◌+◌, ◌*◌, ◌^◌, length, vec_len, SFits, inl, inr}
 use Rattle.std.proofs.lemmas.Int.{to_z-of_z, ints}
 use Rattle.std.proofs.lemmas.Bool.{cases_lt}
 use mir.Syntax.{w32}
-use Rattle.cc_base.specs.Groups.{places_in}
-use Rattle.cc_base.specs.Need.{width, box}
+use Rattle.cc_base.specs.Need.{width}
 use Rattle.linear_solver.specs.Atoms.{seen_atoms}
 use Rattle.linear_solver.proofs.FirstList.{atoms_length}
 use Rattle.linear_solver.proofs.Settling.{box_is, width_positive, width_small}

@@ -1,4 +1,4 @@
-use Rattle.std.proofs.Common.{◌≡◌, ◌∙◌, sym, ap, ap₂, subst, arith, ℕ, ℤ, ◌≤◌, ◌<◌, List, length, to_z, of_z}
+use Rattle.std.proofs.Common.{◌∙◌, sym, ap, ap₂, subst, arith, ℤ, ◌≤◌, List, length, to_z, of_z}
 use Rattle.std.proofs.lemmas.Int.{to_z-of_z}
 use mir.Syntax.{w32}
 use Rattle.cc_base.specs.Groups.{places_in}

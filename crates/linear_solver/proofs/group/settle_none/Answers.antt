@@ -1,4 +1,4 @@
-use Rattle.std.proofs.Common.{◌≡◌, ◌∙◌, sym, subst, arith, ℕ, ℤ, List, true, false}
+use Rattle.std.proofs.Common.{subst, arith, ℤ, List}
 use Rattle.cc_base.specs.Groups.{HoldAll}
 use Rattle.linear_solver.specs.Atoms.{seen_atoms}
 use Rattle.linear_solver.specs.Seen.{at_places}

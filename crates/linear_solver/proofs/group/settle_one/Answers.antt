@@ -1,8 +1,6 @@
-use Rattle.std.proofs.Common.{◌≡◌, ◌∙◌, sym, subst, rules, arith, ℕ, ℤ, ◌≤ℤ◌, List, Option, length, Some, None, to_z, of_z}
+use Rattle.std.proofs.Common.{sym, subst, arith, ℤ, ◌≤ℤ◌, Option, to_z, of_z}
 use Rattle.std.proofs.lemmas.Int.{to_z-of_z}
 use mir.Syntax.{w32}
-use Rattle.cc_base.specs.Groups.{HoldAll}
-use Rattle.cc_base.specs.Witness.{changed, origin}
 use Rattle.linear_solver.specs.Atoms.{seen_atoms}
 use Rattle.linear_solver.specs.Seen.{at_places}
 use Rattle.linear_solver.specs.Spans.{FoundAt}

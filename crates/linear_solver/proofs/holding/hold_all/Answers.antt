@@ -1,4 +1,4 @@
-use Rattle.std.proofs.Common.{◌≡◌, ◌∙◌, sym, ap, subst, refl, arith, ℕ, ℤ, ◌+◌, ◌<◌, ◌≤◌, ◌↔◌, Bool, true, false, List, [], ◌∷◌, drop, length, get_or}
+use Rattle.std.proofs.Common.{◌≡◌, sym, subst, refl, ℕ, ℤ, ◌+◌, ◌<◌, ◌≤◌, ◌↔◌, List, drop, length, get_or}
 use Rattle.cc_base.specs.Groups.{Atom, Holds, HoldAll}
 use Rattle.linear_solver.specs.declared.atoms.LinearAtom.{LinearAtom}
 use Rattle.linear_solver.specs.Atoms.{seen_atom, seen_atoms}

@@ -1,10 +1,10 @@
-use Rattle.std.proofs.Common.{◌≡◌, ◌≢◌, ◌∙◌, sym, ap, subst, refl, rules, arith, ℕ, ℤ, pos, ◌≤ℤ◌, ◌↔◌, Bool, true, false, not, SFits, to_z, of_z}
+use Rattle.std.proofs.Common.{◌≡◌, ◌∙◌, sym, subst, refl, rules, ℕ, ℤ, pos, ◌≤ℤ◌, ◌↔◌, Bool, true, false, not, SFits, to_z, of_z}
 use Rattle.std.proofs.lemmas.Int.{to_z-of_z}
 use mir.Syntax.{w128}
 use Rattle.cc_base.specs.Groups.{Form, Holds, value}
 use Rattle.linear_solver.specs.declared.atoms.Sign.{Sign}
 use Rattle.linear_solver.specs.declared.atoms.Sign.TheVariants.{AtMostZero, Zero, NotZero}
-use Rattle.linear_solver.specs.Atoms.{seen_form, seen_atom, atom_of}
+use Rattle.linear_solver.specs.Atoms.{seen_form, atom_of}
 use Rattle.linear_solver.specs.Seen.{at_places}
 use Rattle.linear_solver.proofs.holding.holds_at.Goals as goal
 

@@ -1,5 +1,4 @@
-use Rattle.std.proofs.Common.{◌≡◌, ◌∙◌, sym, ap, ap₂, subst, rules, SFits, FitsSigned, ℤ, pos, ◌*ℤ◌, ◌≤◌, ◌^◌, unsigned_abs, to_z, of_z, arith}
-use Rattle.std.proofs.lemmas.Int.{to_z-of_z, ints}
+use Rattle.std.proofs.Common.{◌∙◌, sym, ap, subst, rules, SFits, ℤ, ◌*ℤ◌, ◌≤◌, ◌^◌, unsigned_abs}
 use mir.Syntax.{w32, w128}
 use Rattle.linear_solver.proofs.Evaluation.{term_bound, unwrapped, value_small}
 use Rattle.linear_solver.proofs.holding.multiple_value.Goals as goal

@@ -1,4 +1,4 @@
-use Rattle.std.proofs.Common.{◌≡◌, ◌∙◌, refl, rules, ℤ, pos, get_or, to_z, of_z, SFits}
+use Rattle.std.proofs.Common.{◌∙◌, refl, rules, pos, get_or, SFits}
 use Rattle.std.proofs.lemmas.Int.{to_z-of_z}
 use mir.Syntax.{w128}
 use Rattle.cc_base.specs.Inequality.{coefficient}

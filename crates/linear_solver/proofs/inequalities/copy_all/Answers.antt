@@ -1,4 +1,4 @@
-use Rattle.std.proofs.Common.{◌≡◌, ◌∙◌, ap, refl, List, ◌+◌, ◌++◌, drop}
+use Rattle.std.proofs.Common.{◌∙◌, ap, List, ◌+◌, ◌++◌, drop}
 use Rattle.cc_base.specs.Inequality as plain
 use Rattle.linear_solver.specs.Seen.{seen_all}
 use Rattle.linear_solver.specs.declared.inequalities.Inequality.{Inequality}

@@ -1,8 +1,7 @@
-use Rattle.std.proofs.Common.{◌≡◌, ◌∙◌, ap, refl, List, [], ◌∷◌, ◌+◌, ◌++◌, drop}
-use Rattle.cc_base.specs.Inequality as plain
+use Rattle.std.proofs.Common.{◌≡◌, ◌∙◌, ap, List, [], ◌∷◌, ◌+◌, ◌++◌, drop}
 use Rattle.linear_solver.specs.Seen.{seen, seen_all}
 use Rattle.linear_solver.specs.declared.inequalities.Inequality.{Inequality}
-use Rattle.linear_solver.proofs.Loops.{seen_push, copied, copied_all}
+use Rattle.linear_solver.proofs.Loops.{copied, copied_all}
 use Rattle.linear_solver.proofs.inequalities.with_first.Goals as goal
 
 started : (o p l : List Inequality) (x : Inequality) → o ≡ [] → p ≡ o ++ (x ∷ []) → seen_all p ++ seen_all l ≡ seen x ∷ seen_all l

@@ -1,8 +1,8 @@
-use Rattle.std.proofs.Common.{◌≡◌, ◌≢◌, ◌∙◌, sym, ap, ap₂, refl, subst, SFits, FitsSigned, to_z, of_z, rules, arith, ℤ, pos, ◌*ℤ◌, ◌+ℤ◌, ◌+◌, ◌<◌, ◌≤◌, ◌++◌, List, [], ◌∷◌, take, drop, length, get_or, unsigned_abs, ◌^◌, ◌-◌, ℕ, length-drop, Vec, Global}
+use Rattle.std.proofs.Common.{◌≡◌, ◌≢◌, ◌∙◌, sym, ap, ap₂, refl, subst, SFits, FitsSigned, to_z, of_z, rules, arith, ℤ, pos, ◌*ℤ◌, ◌+ℤ◌, ◌+◌, ◌≤◌, ◌++◌, List, [], ◌∷◌, take, drop, length, get_or, unsigned_abs, ◌^◌, ◌-◌, ℕ, length-drop, Vec, Global}
 use Rattle.std.proofs.lemmas.List.{take_all}
 use Rattle.std.proofs.lemmas.Int.{to_z-of_z, ints}
 use mir.Syntax.{w128}
-use Rattle.cc_base.specs.Inequality.{scaled, scaled_term, merge, put_unless_zero}
+use Rattle.cc_base.specs.Inequality.{scaled, scaled_term, merge}
 use Rattle.cc_base.specs.declared.forms.Multiple.{Multiple}
 use Rattle.linear_solver.proofs.MergeSteps.{step_left, step_right, step_both, out_one, out_none, out_sum, left_out, right_out}
 use Rattle.linear_solver.proofs.merging.merge_of.Goals as goal

@@ -1,4 +1,4 @@
-use Rattle.std.proofs.Common.{◌≡◌, ◌∙◌, sym, ap, ap₂, refl, SFits, to_z, of_z, rules, ℤ, ◌*ℤ◌}
+use Rattle.std.proofs.Common.{◌∙◌, ap, ap₂, SFits, rules, ℤ, ◌*ℤ◌}
 use Rattle.std.proofs.lemmas.Int.{to_z-of_z}
 use mir.Syntax.{w128}
 use Rattle.cc_base.specs.Inequality.{scaled_term}

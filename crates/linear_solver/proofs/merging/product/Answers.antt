@@ -1,4 +1,4 @@
-use Rattle.std.proofs.Common.{◌≡◌, ◌∙◌, sym, ap, ap₂, subst, refl, SFits, to_z, of_z, arith, ◌≤◌, ◌<◌, ◌*◌, ◌^◌, ℕ, ℤ, ◌*ℤ◌, unsigned_abs, mul-le-mul, lit≤, lt_of_le_of_lt, le_trans}
+use Rattle.std.proofs.Common.{◌≡◌, ◌∙◌, sym, ap, ap₂, subst, SFits, to_z, of_z, arith, ◌≤◌, ◌^◌, ℕ, ℤ, ◌*ℤ◌, unsigned_abs, mul-le-mul}
 use Rattle.std.proofs.lemmas.Int.{to_z-of_z, unsigned_abs-mul, fits_signed_from_abs}
 use mir.Syntax.{w128}
 use Rattle.linear_solver.proofs.merging.product.Goals as goal

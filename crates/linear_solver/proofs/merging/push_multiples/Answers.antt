@@ -1,4 +1,4 @@
-use Rattle.std.proofs.Common.{◌≡◌, ◌∙◌, sym, ap, ap₂, refl, subst, SFits, to_z, of_z, rules, arith, ℤ, pos, ◌*ℤ◌, ◌+◌, ◌++◌, List, [], ◌∷◌, take, get_or, append-nil}
+use Rattle.std.proofs.Common.{◌≡◌, ◌∙◌, sym, ap, to_z, of_z, ℤ, pos, ◌++◌, [], ◌∷◌, get_or, append-nil}
 use Rattle.std.proofs.lemmas.Int.{to_z-of_z}
 use mir.Syntax.{w128}
 use Rattle.cc_base.specs.Inequality.{scaled, scaled_term}

@@ -1,7 +1,7 @@
-use Rattle.std.proofs.Common.{◌≡◌, ◌∙◌, sym, ap, ap₂, refl, subst, SFits, to_z, of_z, arith, rules, unsigned_abs, ℤ, ℕ, pos, ◌<◌, ◌+◌, ◌++◌, length, set, slice_index_or, get_or, map, take, drop}
+use Rattle.std.proofs.Common.{◌≡◌, ◌∙◌, ap, SFits, to_z, of_z, arith, rules, unsigned_abs, ℤ, pos, ◌<◌, length, slice_index_or}
 use Rattle.std.proofs.lemmas.Int.{to_z-of_z}
 use mir.Syntax.{w128}
-use Rattle.cc_base.specs.Inequality.{divided, floor}
+use Rattle.cc_base.specs.Inequality.{floor}
 use Rattle.cc_base.specs.declared.forms.Multiple.{Multiple}
 use Rattle.linear_solver.proofs.Steps.{divide_step}
 use Rattle.linear_solver.proofs.normalise.divide.Goals as goal

@@ -1,4 +1,4 @@
-use Rattle.std.proofs.Common.{◌≡◌, ◌∙◌, sym, ap, refl, SFits, to_z, of_z, arith, rules, unsigned_abs, ℤ, ℕ, pos, ◌<◌, ◌+◌, length, drop, drop-cons, slice_index_or, get_or}
+use Rattle.std.proofs.Common.{◌∙◌, ap, refl, SFits, rules, unsigned_abs, ℕ, pos, ◌+◌, drop, slice_index_or}
 use Rattle.std.proofs.lemmas.Int.{to_z-of_z}
 use mir.Syntax.{w128}
 use Rattle.cc_base.specs.Inequality.{divisor, divisor_from, gcd}

@@ -1,4 +1,4 @@
-use Rattle.std.proofs.Common.{◌≡◌, ◌∙◌, sym, ap, ap₂, refl, subst, Fits, SFits, to_z, of_z, arith, rules, unsigned_abs, ℤ, ℕ, pos, ◌<◌, ◌+◌, ◌^◌, map, List, lit<, All, ◌<ℤ◌, ◌≤◌}
+use Rattle.std.proofs.Common.{◌≡◌, ◌∙◌, sym, ap, ap₂, refl, subst, SFits, to_z, of_z, arith, rules, unsigned_abs, ℤ, ℕ, pos, ◌<◌, ◌^◌, map, List, lit<, All, ◌<ℤ◌, ◌≤◌}
 use Rattle.std.proofs.lemmas.Int.{to_z-of_z, to_z_pos, ints}
 use Rattle.std.proofs.lemmas.List.{with_items_is}
 use Rattle.std.specs.Vec.{with_items}

@@ -1,4 +1,4 @@
-use Rattle.std.proofs.Common.{◌≡◌, ◌∙◌, sym, subst, ap, arith, ◌<◌, ℕ}
+use Rattle.std.proofs.Common.{◌∙◌, sym, ap, arith}
 use Rattle.cc_base.specs.Inequality.{gcd}
 use Rattle.linear_solver.proofs.Integers.{gcd-zero, gcd_step}
 use Rattle.linear_solver.proofs.numbers.+gcd_of.Goals as goal

@@ -1,8 +1,7 @@
-use Rattle.std.proofs.Common.{◌≡◌, ◌∙◌, sym, ap, ap₂, SFits, arith, unsigned_abs, ℤ, pos, negsuc, ◌<ℤ◌, refl}
+use Rattle.std.proofs.Common.{◌≡◌, ◌∙◌, ap₂, SFits, arith, unsigned_abs, ℤ, pos, negsuc, ◌<ℤ◌, refl}
 use Rattle.std.proofs.lemmas.Int.{ints, to_z-of_z}
 use mir.Syntax.{w128}
 use Rattle.std.specs.Int.{int_div_euclid}
-use Rattle.cc_base.specs.Inequality.{floor}
 use Rattle.linear_solver.proofs.Integers.{floor_div}
 use Rattle.linear_solver.proofs.numbers.floor_of.Goals as goal
 

@@ -1,9 +1,9 @@
-use Rattle.std.proofs.Common.{◌≡◌, ◌∙◌, sym, ap, ap₂, subst, refl, rules, arith, ℕ, ℤ, pos, neg_ℤ, ◌-ℤ◌, ◌≤◌, ◌^◌, unsigned_abs, List, SFits, FitsSigned, to_z, of_z}
+use Rattle.std.proofs.Common.{◌≡◌, ◌∙◌, sym, ap, subst, rules, arith, ℕ, ℤ, pos, neg_ℤ, ◌-ℤ◌, ◌≤◌, ◌^◌, unsigned_abs, List, SFits, FitsSigned, to_z, of_z}
 use Rattle.std.proofs.lemmas.Int.{to_z-of_z, ints}
 use mir.Syntax.{w128}
 use Rattle.cc_base.specs.Inequality.{coefficient}
 use Rattle.cc_base.specs.declared.forms.Multiple.{Multiple}
-use Rattle.linear_solver.specs.Atoms.{seen_form, seen_atom}
+use Rattle.linear_solver.specs.Atoms.{seen_form}
 use Rattle.linear_solver.specs.Ordered.{Ordered}
 use Rattle.linear_solver.specs.Spans.{Narrows}
 use Rattle.linear_solver.proofs.Ranking.{coefficient_bound}

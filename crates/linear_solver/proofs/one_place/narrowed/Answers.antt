@@ -1,10 +1,9 @@
-use Rattle.std.proofs.Common.{◌≡◌, ◌∙◌, sym, ap, ap₂, subst, refl, rules, arith, ℕ, ℤ, pos, negsuc, neg_ℤ, ◌+ℤ◌, ◌-ℤ◌, ◌<ℤ◌, ◌≤ℤ◌, ◌≤◌, ◌^◌, unsigned_abs, SFits, FitsSigned, to_z, of_z}
+use Rattle.std.proofs.Common.{◌≡◌, ◌∙◌, sym, ap, ap₂, subst, rules, arith, ℕ, ℤ, pos, neg_ℤ, ◌-ℤ◌, ◌<ℤ◌, ◌≤ℤ◌, ◌≤◌, ◌^◌, unsigned_abs, SFits, FitsSigned, to_z, of_z}
 use Rattle.std.proofs.lemmas.Int.{to_z-of_z, ints}
 use mir.Syntax.{w128}
 use Rattle.cc_base.specs.Inequality.{floor}
-use Rattle.linear_solver.specs.Spans.{Narrows}
 use Rattle.linear_solver.proofs.Pairing.{floor_less}
-use Rattle.linear_solver.proofs.Spanning.{narrow_up, narrow_down, narrow_none, kept_same}
+use Rattle.linear_solver.proofs.Spanning.{narrow_up, narrow_down, narrow_none}
 use Rattle.linear_solver.proofs.one_place.narrowed.Goals as goal
 
 fits_neg : (k : ℤ) → unsigned_abs k ≤ 2 ^ 80 → FitsSigned w128 (pos 0 -ℤ k)

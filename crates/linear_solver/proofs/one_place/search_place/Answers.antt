@@ -1,4 +1,4 @@
-use Rattle.std.proofs.Common.{◌≡◌, ◌∙◌, sym, ap, ap₂, subst, rules, arith, ℕ, ℤ, pos, ◌+ℤ◌, ◌≤ℤ◌, ◌+◌, ◌<◌, ◌≤◌, Option, Some, None, inl, inr, SFits, to_z, of_z}
+use Rattle.std.proofs.Common.{◌≡◌, ◌∙◌, sym, ap, subst, rules, arith, ℕ, ℤ, pos, ◌+ℤ◌, ◌≤ℤ◌, Option, inl, inr, SFits, to_z, of_z}
 use Rattle.std.proofs.lemmas.Int.{to_z-of_z, ints}
 use Rattle.std.proofs.lemmas.Bool.{cases_lt}
 use mir.Syntax.{w32, w128}
@@ -12,6 +12,13 @@ use Rattle.linear_solver.proofs.one_place.search_place.Goals as goal
 
 lies : (lo hi a b l h z : ℤ) (k : ℕ) → a ≡ lo → b ≡ hi → a ≤ℤ l → h ≤ℤ b → (l +ℤ pos k) ≤ℤ h → z ≡ l +ℤ pos k → (lo ≤ℤ z) × (z ≤ℤ hi)
 lies lo hi a b l h z k e f g i j m = (omega (arith, ints, e, g, m), omega (arith, ints, f, i, j, m))
+
+pub marks_of-requires-clause-low_most : goal.marks_of-requires-clause-low_most
+marks_of-requires-clause-low_most c =
+    let l = c.all_enclosed-span.result.low in let f : SFits w128 l = search rules in
+    let n = c.if-size-eq0.false in let w = c.size_of_span-size.ensures.within 0 (omega (arith, n)) in
+    let e = c.whole.ensures.high ∙ to_z-of_z w32 c.args.hi c.ranges.hi in let s = c.ranges.hi.sfits in let h = c.all_enclosed-span.ensures.high in
+    subst (λ (z : ℤ). z ≤ℤ pos 2147483647) (sym (to_z-of_z w128 l f)) (omega (arith, ints, w, e, s, h))
 
 pub returns-in-Some : goal.returns-in-Some
 returns-in-Some c =

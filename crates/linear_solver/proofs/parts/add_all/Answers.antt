@@ -1,4 +1,4 @@
-use Rattle.std.proofs.Common.{◌≡◌, refl, reverse}
+use Rattle.std.proofs.Common.{refl, reverse}
 use Rattle.cc_base.specs.Groups.{put_all}
 use Rattle.linear_solver.proofs.PartSteps.{add_more, add_end}
 use Rattle.linear_solver.proofs.parts.add_all.Goals as goal

@@ -1,4 +1,4 @@
-use Rattle.std.proofs.Common.{◌≡◌, ◌∙◌, sym, ap, ℕ, List, Bool, true, false, reverse}
+use Rattle.std.proofs.Common.{◌∙◌, sym, ap, List, reverse}
 use Rattle.cc_base.specs.declared.forms.Multiple.{Multiple}
 use Rattle.cc_base.specs.Groups.{shares, named}
 use Rattle.linear_solver.proofs.PartSteps.{on_one, on_none}

@@ -1,4 +1,4 @@
-use Rattle.std.proofs.Common.{◌≡◌, ◌∙◌, sym, ap, ℕ, Bool, true, false, List, reverse, if◌then◌else◌}
+use Rattle.std.proofs.Common.{◌∙◌, sym, ap, Bool, reverse, if◌then◌else◌}
 use Rattle.cc_base.specs.Groups.{put_all}
 use Rattle.linear_solver.proofs.parts.add_touching.Goals as goal
 

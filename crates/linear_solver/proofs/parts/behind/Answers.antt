@@ -1,4 +1,4 @@
-use Rattle.std.proofs.Common.{◌≡◌, ◌∙◌, sym, ap, refl, arith, ℕ, Bool, true, false, List, length, reverse, length-append, ◌<◌, Vec, Global, ◌++◌, ◌∷◌, []}
+use Rattle.std.proofs.Common.{◌≡◌, ◌∙◌, sym, ap, arith, ℕ, true, false, List, length, reverse, length-append, ◌<◌, Vec, Global, ◌++◌, ◌∷◌, []}
 use Rattle.std.proofs.lemmas.List.{nil_from_length}
 use Rattle.cc_base.specs.Groups.{apart, shares}
 use Rattle.linear_solver.specs.Parts.{all_backwards, backwards}

@@ -1,6 +1,6 @@
-use Rattle.std.proofs.Common.{◌≡◌, ◌∙◌, sym, ap, refl, rules, arith, ℕ, ◌-◌, Bool, List, reverse, drop, if◌then◌else◌, Vec, Global}
+use Rattle.std.proofs.Common.{◌≡◌, ◌∙◌, ap, refl, rules, arith, ℕ, ◌-◌, List, reverse, drop, if◌then◌else◌}
 use Rattle.cc_base.specs.Groups.{touching, shares, put_all}
-use Rattle.linear_solver.specs.Parts.{all_backwards, backwards}
+use Rattle.linear_solver.specs.Parts.{all_backwards}
 use Rattle.linear_solver.proofs.PartSteps.{touch_none, touch_more}
 use Rattle.linear_solver.proofs.parts.joined.Goals as goal
 

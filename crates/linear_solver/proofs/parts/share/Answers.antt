@@ -1,4 +1,4 @@
-use Rattle.std.proofs.Common.{◌≡◌, ◌∙◌, sym, refl}
+use Rattle.std.proofs.Common.{◌∙◌, sym, refl}
 use Rattle.cc_base.specs.Groups.{shares}
 use Rattle.linear_solver.proofs.PartSteps.{share_here, share_on, share_end}
 use Rattle.linear_solver.proofs.parts.share.Goals as goal

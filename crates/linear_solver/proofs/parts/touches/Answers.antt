@@ -1,4 +1,4 @@
-use Rattle.std.proofs.Common.{◌≡◌, ◌∙◌, sym, refl, reverse, get_or, pos}
+use Rattle.std.proofs.Common.{◌∙◌, sym, refl, reverse, get_or, pos}
 use Rattle.cc_base.specs.declared.forms.Multiple.{Multiple}
 use Rattle.cc_base.specs.Groups.{shares, named}
 use Rattle.linear_solver.proofs.Parting.{contains_reverse}

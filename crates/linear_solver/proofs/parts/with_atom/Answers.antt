@@ -1,7 +1,7 @@
-use Rattle.std.proofs.Common.{◌≡◌, ◌∙◌, sym, ap, ap₂, ℕ, List, [], ◌∷◌, reverse, Vec, Global}
+use Rattle.std.proofs.Common.{◌≡◌, ◌∙◌, ap, ap₂, ℕ, List, ◌∷◌, reverse, Vec, Global}
 use Rattle.cc_base.specs.declared.forms.Multiple.{Multiple}
 use Rattle.cc_base.specs.Groups.{put_all, named, touching, apart}
-use Rattle.linear_solver.specs.Parts.{backwards, all_backwards}
+use Rattle.linear_solver.specs.Parts.{all_backwards}
 use Rattle.linear_solver.proofs.PartSteps.{named_once}
 use Rattle.linear_solver.proofs.parts.with_atom.Goals as goal
 

@@ -1,10 +1,9 @@
-use Rattle.std.proofs.Common.{◌≡◌, ◌∙◌, sym, ap, ap₂, subst, refl, rules, arith, ◌<◌, ◌≤◌, ◌+◌, ◌-◌, ℕ, ℤ, List, [], ◌∷◌, ◌++◌, length, map, append_assoc, append-nil, Vec, vec_len, Global}
+use Rattle.std.proofs.Common.{◌≡◌, ◌∙◌, sym, ap, ap₂, subst, refl, rules, arith, ◌+◌, ◌-◌, ℕ, List, [], ◌∷◌, ◌++◌, length, map, append_assoc, append-nil}
 use Rattle.std.proofs.lemmas.List.{length-map}
 use Rattle.linear_solver.specs.declared.inequalities.Inequality.{Inequality}
 use Rattle.cc_base.specs.Inequality as plain
-use Rattle.cc_base.specs.Pass.{ended, going, Ready, pairs, eliminate, ready, pass, turns, costing}
-use Rattle.cc_base.specs.declared.passes.PassEnd.{PassEnd}
-use Rattle.linear_solver.specs.Seen.{seen, seen_turn, seen_turns, seen_all, seen_ready, seen_counted, counted, over, done}
+use Rattle.cc_base.specs.Pass.{ended, going, pairs, eliminate, ready, turns}
+use Rattle.linear_solver.specs.Seen.{seen, seen_turn, seen_turns, seen_all, seen_ready, counted}
 use Rattle.linear_solver.proofs.Counting.{counted_within, counted_costing, counted_over, turns_ended, turns_going, turns_none, pass_start, pass_over, trail_ended, trail_going, trail_none}
 use Rattle.cc_base.specs.Witness.{Turn}
 use Rattle.linear_solver.specs.Trail.{trail_of}

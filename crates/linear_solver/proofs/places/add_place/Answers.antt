@@ -1,4 +1,4 @@
-use Rattle.std.proofs.Common.{◌≡◌, ◌∙◌, sym, ap, ℕ, List, Bool, true, false}
+use Rattle.std.proofs.Common.{◌∙◌, sym, ap, ℕ, List}
 use Rattle.cc_base.specs.Groups.{contains}
 use Rattle.linear_solver.proofs.Parting.{put_in, put_out_of}
 use Rattle.linear_solver.proofs.places.add_place.Goals as goal

@@ -1,4 +1,4 @@
-use Rattle.std.proofs.Common.{◌≡◌, ◌∙◌, sym, refl}
+use Rattle.std.proofs.Common.{refl}
 use Rattle.cc_base.specs.Groups.{contains}
 use Rattle.linear_solver.proofs.Members.{found_here, not_here, none_left}
 use Rattle.linear_solver.proofs.places.is_in.Goals as goal

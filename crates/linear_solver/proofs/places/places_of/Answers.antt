@@ -1,8 +1,8 @@
-use Rattle.std.proofs.Common.{◌≡◌, ◌∙◌, sym, ap, refl, arith, ℕ, ◌+◌, ◌-◌, ◌<◌, ◌≤◌, List, [], drop, length, get_or, reverse}
+use Rattle.std.proofs.Common.{◌≡◌, ◌∙◌, sym, ap, arith, ℕ, ◌+◌, ◌-◌, ◌<◌, ◌≤◌, List, [], drop, length, get_or, reverse}
 use Rattle.cc_base.specs.declared.forms.Multiple.{Multiple}
-use Rattle.cc_base.specs.Groups.{Form, put_all, named, places_in, form_of}
+use Rattle.cc_base.specs.Groups.{Form, put_all, named, places_in}
 use Rattle.linear_solver.specs.declared.atoms.LinearAtom.{LinearAtom}
-use Rattle.linear_solver.specs.Atoms.{seen_atom, seen_atoms}
+use Rattle.linear_solver.specs.Atoms.{seen_atoms}
 use Rattle.linear_solver.proofs.Writing.{atoms_drop, atoms_end, seen_form_is}
 use Rattle.linear_solver.proofs.places.places_of.Goals as goal
 

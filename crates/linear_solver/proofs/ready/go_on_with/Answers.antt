@@ -1,8 +1,6 @@
-use Rattle.std.proofs.Common.{◌≡◌, ◌≢◌, ◌∙◌, sym, ap, subst, refl, arith, ℕ, zero, suc, ◌<◌, ◌≤◌, List, [], ◌∷◌, length, get_or, vec_len, Bool, false, nat_eq}
+use Rattle.std.proofs.Common.{◌≡◌, ◌≢◌, ◌∙◌, sym, ap, refl, arith, ℕ, zero, suc, ◌<◌, List, [], ◌∷◌, length, get_or, vec_len, Bool, false, nat_eq}
 use Rattle.std.proofs.lemmas.List.{nil_from_length}
 use borrow.Author.Tests.{eqb-true, eq-eqb}
-use Rattle.cc_base.specs.Inequality as plain
-use Rattle.cc_base.specs.declared.forms.Multiple.{Multiple}
 use Rattle.cc_base.specs.declared.passes.PassEnd.TheVariants.{Full}
 use Rattle.cc_base.specs.Pass.{ended, going, go_on, best, some_place}
 use Rattle.linear_solver.specs.declared.inequalities.Inequality.{Inequality}

@@ -1,6 +1,6 @@
-use Rattle.std.proofs.Common.{◌≡◌, ◌∙◌, sym, ap, subst, refl, arith, Bool, true, false, List}
+use Rattle.std.proofs.Common.{◌≡◌, ◌∙◌, sym, ap, subst, List}
 use Rattle.cc_base.specs.Inequality as plain
-use Rattle.cc_base.specs.Pass.{ended, go_on, ready, tidy, some_wide, some_false, with_terms}
+use Rattle.cc_base.specs.Pass.{go_on, ready, some_wide, some_false, with_terms}
 use Rattle.linear_solver.specs.declared.inequalities.Inequality.{Inequality}
 use Rattle.linear_solver.specs.Ordered.{NarrowAll}
 use Rattle.linear_solver.specs.Seen.{seen_all}

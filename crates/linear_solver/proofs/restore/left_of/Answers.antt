@@ -1,10 +1,9 @@
-use Rattle.std.proofs.Common.{◌≡◌, ◌∙◌, sym, ap, ap₂, subst, refl, rules, arith, ℕ, ℤ, pos, ◌+ℤ◌, ◌-ℤ◌, ◌*ℤ◌, ◌≤◌, ◌<◌, ◌*◌, ◌+◌, ◌-◌, ◌^◌, All, unsigned_abs, List, length, drop, get_or, SFits, FitsSigned, to_z, of_z}
+use Rattle.std.proofs.Common.{◌≡◌, ◌∙◌, sym, ap, subst, rules, arith, ℕ, ℤ, pos, ◌+ℤ◌, ◌-ℤ◌, ◌*ℤ◌, ◌≤◌, ◌*◌, ◌+◌, ◌^◌, All, unsigned_abs, List, length, get_or, SFits, FitsSigned, to_z, of_z}
 use Rattle.std.proofs.lemmas.Int.{to_z-of_z, ints}
 use mir.Syntax.{w128}
 use Rattle.cc_base.specs.Inequality.{total}
-use Rattle.cc_base.specs.Witness.{changed, left}
+use Rattle.cc_base.specs.Witness.{changed}
 use Rattle.cc_base.specs.declared.forms.Multiple.{Multiple}
-use Rattle.linear_solver.specs.Ordered.{Ordered}
 use Rattle.linear_solver.specs.Seen.{seen, at_places}
 use Rattle.linear_solver.proofs.Evaluation.{total_more, total_end, left_is, ordered_length}
 use Rattle.linear_solver.proofs.restore.left_of.Goals as goal

@@ -1,4 +1,4 @@
-use Rattle.std.proofs.Common.{◌≡◌, ◌∙◌, ap, ap₂, rules, SFits, Option, Some, None, ℤ, to_z, of_z}
+use Rattle.std.proofs.Common.{◌∙◌, ap, ap₂, rules, SFits, Some, ℤ}
 use Rattle.std.proofs.lemmas.Int.{to_z-of_z}
 use mir.Syntax.{w128}
 use Rattle.cc_base.specs.Witness.{smaller}

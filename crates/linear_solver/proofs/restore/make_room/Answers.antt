@@ -1,4 +1,4 @@
-use Rattle.std.proofs.Common.{◌≡◌, ◌∙◌, sym, ap, arith, ℤ, pos, ◌-◌, ◌++◌, List, replicate, take, length, vec_len, ◌≤◌}
+use Rattle.std.proofs.Common.{◌∙◌, ap, arith, ℤ, pos, ◌-◌, ◌++◌, List, replicate, vec_len}
 use Rattle.std.proofs.lemmas.List.{take_all}
 use Rattle.linear_solver.proofs.Evaluation.{at_grown}
 use Rattle.linear_solver.proofs.restore.make_room.Goals as goal

@@ -1,4 +1,4 @@
-use Rattle.std.proofs.Common.{◌≡◌, ◌∙◌, sym, ap, ap₂, subst, rules, arith, ℕ, ℤ, pos, ◌<ℤ◌, ◌≤◌, ◌<◌, ◌^◌, unsigned_abs, SFits, to_z, of_z}
+use Rattle.std.proofs.Common.{◌≡◌, ◌∙◌, sym, ap, ap₂, subst, rules, arith, ℕ, ℤ, pos, ◌<ℤ◌, ◌≤◌, ◌^◌, unsigned_abs, SFits, to_z}
 use Rattle.std.proofs.lemmas.Int.{to_z-of_z, to_z_pos, ints}
 use mir.Syntax.{w128}
 use Rattle.cc_base.specs.Inequality.{floor}

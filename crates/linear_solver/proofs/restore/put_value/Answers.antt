@@ -1,4 +1,4 @@
-use Rattle.std.proofs.Common.{◌≡◌, ◌∙◌, sym, ap, arith, ℕ, ℤ, List, set, ◌<◌, length, vec_len}
+use Rattle.std.proofs.Common.{◌∙◌, ap, arith, ℕ, ℤ, set, ◌<◌, length}
 use Rattle.std.proofs.lemmas.Int.{to_z-of_z}
 use mir.Syntax.{w32}
 use Rattle.cc_base.specs.Witness.{changed}

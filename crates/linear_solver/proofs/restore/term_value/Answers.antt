@@ -1,7 +1,6 @@
 use Rattle.std.proofs.Common.{◌≡◌, ◌∙◌, sym, ap, ap₂, subst, rules, SFits, FitsSigned, ℤ, pos, ◌*ℤ◌, ◌≤◌, ◌^◌, unsigned_abs, to_z, of_z, arith}
 use Rattle.std.proofs.lemmas.Int.{to_z-of_z, ints}
 use mir.Syntax.{w32, w128}
-use Rattle.cc_base.specs.Witness.{changed}
 use Rattle.linear_solver.specs.Seen.{at_places}
 use Rattle.linear_solver.proofs.Evaluation.{changed_same, changed_other, zero_term, term_bound, fits_term, value_small}
 use Rattle.linear_solver.proofs.restore.term_value.Goals as goal

@@ -1,4 +1,4 @@
-use Rattle.std.proofs.Common.{◌≡◌, ◌∙◌, rules, SFits, pos, get_or}
+use Rattle.std.proofs.Common.{◌∙◌, rules, SFits, pos, get_or}
 use Rattle.std.proofs.lemmas.Int.{to_z-of_z}
 use mir.Syntax.{w32}
 use Rattle.linear_solver.proofs.Evaluation.{at_is, at_past}

@@ -1,4 +1,4 @@
-use Rattle.std.proofs.Common.{◌≡◌, ◌∙◌, refl, rules, SFits}
+use Rattle.std.proofs.Common.{◌∙◌, refl, rules, SFits}
 use Rattle.std.proofs.lemmas.Int.{to_z-of_z}
 use mir.Syntax.{w128}
 use Rattle.linear_solver.specs.Seen.{seen_all, at_places}

@@ -1,4 +1,4 @@
-use Rattle.std.proofs.Common.{◌≡◌, ◌∙◌, sym, ap, ap₂, subst, refl, rules, arith, ℕ, ℤ, ◌≤◌, ◌<◌, ◌^◌, List, Option, neg_ℤ, SFits, to_z, of_z}
+use Rattle.std.proofs.Common.{◌≡◌, ◌∙◌, sym, ap, subst, rules, arith, ℤ, ◌^◌, List, Option, neg_ℤ, SFits}
 use mir.Syntax.{w128}
 use Rattle.std.proofs.lemmas.Int.{to_z-of_z}
 use Rattle.cc_base.specs.Inequality.{coefficient, floor}

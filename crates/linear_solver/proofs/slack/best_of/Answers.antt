@@ -1,4 +1,4 @@
-use Rattle.std.proofs.Common.{◌≡◌, ◌∙◌, ap, refl, ℕ, ◌+◌, List, drop}
+use Rattle.std.proofs.Common.{◌∙◌, ap, ℕ, ◌+◌, List, drop}
 use Rattle.cc_base.specs.Pass.{best, best_in}
 use Rattle.cc_base.specs.declared.forms.Multiple.{Multiple}
 use Rattle.linear_solver.specs.Seen.{seen, seen_all}

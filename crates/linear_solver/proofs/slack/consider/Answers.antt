@@ -1,9 +1,9 @@
-use Rattle.std.proofs.Common.{◌≡◌, ◌∙◌, sym, ap, subst, refl, ℕ, Bool, true, false, List, ◌++◌, ◌∷◌, [], All}
+use Rattle.std.proofs.Common.{◌≡◌, ◌∙◌, sym, ap, subst, ℕ, true, false, List, All}
 use Rattle.std.proofs.lemmas.List.Elements.{All-push, All-weaker}
 use Rattle.cc_base.specs.Groups.{contains}
 use Rattle.cc_base.specs.Pass.{better}
 use Rattle.linear_solver.specs.Seen.{seen_all}
-use Rattle.linear_solver.specs.Ranks.{Known, before}
+use Rattle.linear_solver.specs.Ranks.{before}
 use Rattle.linear_solver.proofs.Members.{all_member}
 use Rattle.linear_solver.proofs.Ranking.{seen_place, taken_place, left_place, left_better, taken_rank, taken_better, taken_self}
 use Rattle.linear_solver.proofs.slack.consider.Goals as goal

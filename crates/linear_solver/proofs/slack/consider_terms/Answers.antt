@@ -1,4 +1,4 @@
-use Rattle.std.proofs.Common.{◌≡◌, refl, pos}
+use Rattle.std.proofs.Common.{refl, pos}
 use Rattle.cc_base.specs.Pass.{best_in}
 use Rattle.cc_base.specs.declared.forms.Multiple.{Multiple}
 use Rattle.linear_solver.specs.Seen.{seen_all}

@@ -1,5 +1,4 @@
-use Rattle.std.proofs.Common.{◌≡◌, ◌∙◌, sym, refl, arith, ◌*◌, ◌^◌, ◌≤◌, ◌-◌, Fits}
-use mir.Syntax.{w128}
+use Rattle.std.proofs.Common.{arith, ◌^◌}
 use Rattle.linear_solver.specs.Seen.{seen_all}
 use Rattle.linear_solver.proofs.Ranking.{rank_sides, sizes, product_bound}
 use Rattle.linear_solver.proofs.slack.rank_of.Goals as goal

@@ -1,4 +1,4 @@
-use Rattle.std.proofs.Common.{◌≡◌, ◌∙◌, sym, ap, subst, refl, arith, ℤ, pos, ◌<ℤ◌, ◌≤ℤ◌, unsigned_abs, to_z, of_z}
+use Rattle.std.proofs.Common.{◌∙◌, sym, ap, subst, arith, ℤ, pos, ◌<ℤ◌, ◌≤ℤ◌, unsigned_abs, to_z, of_z}
 use Rattle.std.proofs.lemmas.Int.{to_z-of_z, ints}
 use mir.Syntax.{w128}
 use Rattle.linear_solver.proofs.SideSteps.{side_none, side_lower, side_upper}

@@ -1,4 +1,4 @@
-use Rattle.std.proofs.Common.{◌≡◌, ◌∙◌, sym, ap, subst, refl, rules, arith, List}
+use Rattle.std.proofs.Common.{◌∙◌, sym, ap, subst, refl, arith, List}
 use Rattle.cc_base.specs.Inequality.{coefficient}
 use Rattle.cc_base.specs.declared.forms.Multiple.{Multiple}
 use Rattle.linear_solver.specs.Ordered.{Ordered}

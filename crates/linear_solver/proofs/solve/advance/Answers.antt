@@ -1,4 +1,4 @@
-use Rattle.std.proofs.Common.{◌≡◌, ◌∙◌, sym, ap, subst, ℕ, ℤ, List, Bool, reverse, to_z, of_z, true, false}
+use Rattle.std.proofs.Common.{subst, ℤ, List, reverse, to_z, of_z, true, false}
 use mir.Syntax.{w32}
 use Rattle.cc_base.specs.Solve as plain
 use Rattle.linear_solver.specs.declared.group.GroupAnswer.{GroupAnswer}

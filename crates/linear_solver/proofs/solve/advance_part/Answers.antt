@@ -1,7 +1,7 @@
-use Rattle.std.proofs.Common.{◌≡◌, ◌∙◌, sym, ap, subst, rules, arith, ℕ, ℤ, List, Bool, true, false, nat_eq, reverse, length, inl, to_z, of_z}
+use Rattle.std.proofs.Common.{◌≡◌, ◌∙◌, sym, ap, subst, rules, List, reverse, length, inl, to_z, of_z}
 use borrow.Author.Tests.{eqb-true, eq-eqb}
 use mir.Syntax.{w32}
-use Rattle.cc_base.specs.Groups.{Atom, atoms_on}
+use Rattle.cc_base.specs.Groups.{Atom}
 use Rattle.linear_solver.specs.Answers.{Advanced, PartAdvanced}
 use Rattle.linear_solver.specs.Atoms.{seen_atoms, FitAll}
 use Rattle.linear_solver.proofs.WritingAnswers.{at_bounds, part_result, fit_on, not_empty, is_empty}

@@ -1,4 +1,4 @@
-use Rattle.std.proofs.Common.{◌≡◌, ◌∙◌, sym, subst, ℕ, ℤ, List, Bool, true, false, vec_len, to_z, of_z}
+use Rattle.std.proofs.Common.{subst, Bool, vec_len, to_z, of_z}
 use mir.Syntax.{w32}
 use Rattle.cc_base.specs.Groups.{parts, groups, groups_of}
 use Rattle.cc_base.specs.Solve.{SomeRefuted}

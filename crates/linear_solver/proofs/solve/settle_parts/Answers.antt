@@ -1,4 +1,4 @@
-use Rattle.std.proofs.Common.{◌≡◌, ◌∙◌, sym, subst, ℕ, ℤ, ◌<◌, List, [], Bool, true, false, reverse, vec_len, All, to_z, of_z}
+use Rattle.std.proofs.Common.{◌∙◌, sym, subst, ℕ, ◌<◌, List, [], Bool, true, false, reverse, vec_len, All, to_z, of_z}
 use mir.Syntax.{w32}
 use Rattle.cc_base.specs.Groups.{parts, groups_of}
 use Rattle.cc_base.specs.Solve.{SomeRefuted}

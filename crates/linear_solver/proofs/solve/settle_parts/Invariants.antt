@@ -1,4 +1,4 @@
-use Rattle.std.proofs.Common.{◌≡◌, take, vec_len}
+use Rattle.std.proofs.Common.{take, vec_len}
 use Rattle.cc_base.specs.Groups.{groups_of}
 use Rattle.linear_solver.specs.Atoms.{seen_atoms}
 use Rattle.linear_solver.specs.Parts.{all_backwards}

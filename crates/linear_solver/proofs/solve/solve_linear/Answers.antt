@@ -1,11 +1,11 @@
-use Rattle.std.proofs.Common.{◌≡◌, ◌∙◌, sym, subst, rules, ℕ, ℤ, List, Bool, true, false, vec_len, length, Option, SFits, to_z, of_z}
+use Rattle.std.proofs.Common.{◌∙◌, sym, subst, rules, ℕ, ℤ, List, Bool, vec_len, Option, SFits, to_z, of_z}
 use mir.Syntax.{w32}
 use Rattle.cc_base.specs.Groups.{parts, groups, groups_of}
 use Rattle.cc_base.specs.Solve.{SomeRefuted, Right, sat}
 use Rattle.linear_solver.specs.Answers.{Given}
 use Rattle.linear_solver.specs.Atoms.{seen_atoms}
 use Rattle.linear_solver.specs.Parts.{answered}
-use Rattle.linear_solver.specs.Standing.{Stands, Left}
+use Rattle.linear_solver.specs.Standing.{Left}
 use Rattle.linear_solver.specs.declared.solve.Solved.TheVariants.{Sat}
 use Rattle.linear_solver.proofs.Assembling.{right_sat, given_sat}
 use Rattle.linear_solver.proofs.WritingAnswers.{at_limits, parts_refute}

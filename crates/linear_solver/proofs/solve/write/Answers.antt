@@ -1,4 +1,4 @@
-use Rattle.std.proofs.Common.{◌≡◌, ◌∙◌, sym, ap, subst, rules, arith, ℕ, ℤ, ◌<◌, ◌+◌, List, Option, Some, None, length, vec_len, take, set, get_or, SFits, to_z, of_z}
+use Rattle.std.proofs.Common.{sym, subst, rules, arith, ℤ, ◌+◌, Some, take, set, get_or, SFits}
 use Rattle.std.proofs.lemmas.Int.{to_z-of_z}
 use mir.Syntax.{w32}
 use Rattle.linear_solver.specs.Parts.{Wrote}

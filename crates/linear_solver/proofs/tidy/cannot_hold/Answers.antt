@@ -1,4 +1,4 @@
-use Rattle.std.proofs.Common.{◌≡◌, ◌∙◌, sym, ap, rules, arith, SFits, ℤ, pos, int_lt, length, vec_len, true}
+use Rattle.std.proofs.Common.{◌≡◌, ◌∙◌, sym, ap, rules, arith, SFits, ℤ, pos, int_lt, vec_len}
 use Rattle.std.proofs.lemmas.Int.{to_z-of_z}
 use mir.Syntax.{w128}
 use borrow.Author.Tests.{eqb-true, eq-eqb}

@@ -1,4 +1,4 @@
-use Rattle.std.proofs.Common.{◌≡◌, ◌∙◌, sym, refl}
+use Rattle.std.proofs.Common.{◌∙◌, sym, refl}
 use Rattle.cc_base.specs.Pass.{some_false}
 use Rattle.linear_solver.specs.Seen.{seen_all}
 use Rattle.linear_solver.proofs.TidySteps.{some_false_here, some_false_on, some_false_end}

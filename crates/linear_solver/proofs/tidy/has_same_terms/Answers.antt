@@ -1,4 +1,4 @@
-use Rattle.std.proofs.Common.{◌≡◌, ◌∙◌, sym, refl, arith, pos}
+use Rattle.std.proofs.Common.{◌∙◌, sym, refl, arith, pos}
 use Rattle.cc_base.specs.Pass.{same_terms}
 use Rattle.cc_base.specs.declared.forms.Multiple.{Multiple}
 use Rattle.linear_solver.proofs.TidySteps.{same_next, same_fails, same_ends, lengths_differ}

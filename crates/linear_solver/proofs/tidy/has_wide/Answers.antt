@@ -1,4 +1,4 @@
-use Rattle.std.proofs.Common.{◌≡◌, ◌∙◌, sym, refl}
+use Rattle.std.proofs.Common.{◌∙◌, sym, refl}
 use Rattle.cc_base.specs.Pass.{some_wide}
 use Rattle.linear_solver.specs.Seen.{seen_all}
 use Rattle.linear_solver.proofs.TidySteps.{some_wide_here, some_wide_on, some_wide_end}

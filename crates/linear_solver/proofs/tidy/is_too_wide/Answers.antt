@@ -1,4 +1,4 @@
-use Rattle.std.proofs.Common.{◌≡◌, ◌∙◌, sym, ap, rules, SFits, unsigned_abs}
+use Rattle.std.proofs.Common.{◌∙◌, sym, ap, rules, SFits, unsigned_abs}
 use Rattle.std.proofs.lemmas.Int.{to_z-of_z}
 use mir.Syntax.{w128}
 use Rattle.cc_base.specs.Pass.{wide_term}

@@ -1,4 +1,4 @@
-use Rattle.std.proofs.Common.{◌≡◌, ◌∙◌, sym, ap, subst, refl, rules, arith, SFits, ℤ, ◌≤ℤ◌, to_z, of_z}
+use Rattle.std.proofs.Common.{◌∙◌, subst, rules, arith, SFits, ℤ, ◌≤ℤ◌, to_z, of_z}
 use Rattle.std.proofs.lemmas.Int.{to_z-of_z, ints}
 use mir.Syntax.{w128}
 use Rattle.linear_solver.specs.Seen.{seen}

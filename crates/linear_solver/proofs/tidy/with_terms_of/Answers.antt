@@ -1,4 +1,4 @@
-use Rattle.std.proofs.Common.{◌≡◌, ◌∙◌, sym, ap, refl, arith, vec_len, length, reverse}
+use Rattle.std.proofs.Common.{◌≡◌, ◌∙◌, sym, arith, vec_len, length, reverse}
 use borrow.Author.Tests.{eqb-true, eq-eqb}
 use Rattle.std.proofs.lemmas.List.{nil_from_length}
 use Rattle.cc_base.specs.Pass.{with_terms}

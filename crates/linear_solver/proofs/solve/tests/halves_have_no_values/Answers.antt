@@ -1,4 +1,4 @@
-use Rattle.std.proofs.Common.{rules, ◌≡◌, ◌≤◌, ◌<◌, ◌+◌, ◌^◌, ℕ, ℤ, pos, negsuc, unsigned_abs, All, List, [], ◌∷◌, sym, subst}
+use Rattle.std.proofs.Common.{rules, ◌≡◌, pos, negsuc, List, [], ◌∷◌, sym, subst}
 use native.Mathlib.Omega.{arith}
 use Rattle.cc_base.specs.Groups.{is_zero, form_of}
 use Rattle.cc_base.specs.declared.forms.Multiple.{Multiple}
@@ -32,10 +32,10 @@ pub solve_linear-requires-clause-below : goal.solve_linear-requires-clause-below
 unfolding seen_atoms
 solve_linear-requires-clause-below g c = below c.in_ok-terms.terms.items c.in_ok-terms.ensures.items
 
-pub solve_linear-requires-2-clause-fit : goal.solve_linear-requires-2-clause-fit
+pub solve_linear-requires-in-loop-budget-clause-fit : goal.solve_linear-requires-in-loop-budget-clause-fit
 unfolding seen_atoms
-solve_linear-requires-2-clause-fit g c = fits c.in_ok-terms.terms.items c.in_ok-terms.ensures.items
+solve_linear-requires-in-loop-budget-clause-fit g c = fits c.in_ok-terms.terms.items c.in_ok-terms.ensures.items
 
-pub solve_linear-requires-2-clause-below : goal.solve_linear-requires-2-clause-below
+pub solve_linear-requires-in-loop-budget-clause-below : goal.solve_linear-requires-in-loop-budget-clause-below
 unfolding seen_atoms
-solve_linear-requires-2-clause-below g c = below c.in_ok-terms.terms.items c.in_ok-terms.ensures.items
+solve_linear-requires-in-loop-budget-clause-below g c = below c.in_ok-terms.terms.items c.in_ok-terms.ensures.items
