@@ -28,13 +28,13 @@ use Rattle.cc_model.proofs.Compute.{everything}
 use Rattle.cc_model.proofs.Computed.{compute_func, computes_func, written}
 
 -- a program as its functions are written, with what a checker tells of it, and the first token of each line
-record Source : Type 0 where
-  facts : Facts
-  funcs : List Func
-  line_starts : List ℕ
-  layouts : ℕ → List Cell
-  globals : List Start
-  entry : ℕ
+pub record Source : Type 0 where
+  pub facts : Facts
+  pub funcs : List Func
+  pub line_starts : List ℕ
+  pub layouts : ℕ → List Cell
+  pub globals : List Start
+  pub entry : ℕ
 
 -- what a table tells of a token
 abbrev told : {A : Type 0} → A → List (ℕ × A) → ℕ → A
@@ -54,7 +54,7 @@ line_of [] t = 0
 line_of (s ∷ l) t = if nat_le s t then suc (line_of l t) else 0
 
 -- the program, resolved from its source trees
-program_of : Source → Program
+pub program_of : Source → Program
 program_of s = record { funcs = map (func_of s.facts) s.funcs; line = line_of s.line_starts; layouts = s.layouts; globals = s.globals; entry = s.entry }
 
 -- what is seen of a run: its path, its end, and the steps that are left
@@ -83,16 +83,16 @@ sites_at : Program → Limits → Input → List At
 sites_at p b h = sites_in (run_of p b h).log
 
 -- the full range of numbers
-unfoldable bounds : ℕ → ℕ → ℕ → Limits
+unfoldable pub bounds : ℕ → ℕ → ℕ → Limits
 bounds depth objects steps = record { lo = negsuc 2147483647; hi = pos 2147483647; depth = depth; objects = objects; steps = steps }
 
-abbrev input : List ℤ → List ℤ → Input
+abbrev pub input : List ℤ → List ℤ → Input
 input cells stream = record { cells = cells; stream = stream }
 
-unfoldable compute_program : Source → Program
+unfoldable pub compute_program : Source → Program
 compute_program s = record { funcs = map (compute_func s.facts) s.funcs; line = line_of s.line_starts; layouts = s.layouts; globals = s.globals; entry = s.entry }
 
-computes_program : (s : Source) → program_of s ≡ compute_program s
+pub computes_program : (s : Source) → program_of s ≡ compute_program s
 unfolding program_of compute_program
 computes_program s = λ i. record { funcs = map (λ f. computes_func s.facts f i) s.funcs; line = line_of s.line_starts; layouts = s.layouts; globals = s.globals; entry = s.entry }
 
@@ -137,7 +137,7 @@ unfolding everything written shows bounds compute_program p1
 p1_steps = row p1 (bounds 100 8 1) (input [] []) _ refl
 
 -- int f(int x) { return x + 1; }
-unfoldable p2 : Source
+unfoldable pub p2 : Source
 p2 = record {
   facts = record {
     names = named ((1, target.Func 0) ∷ (4, target.Local 0) ∷ (8, target.Local 0) ∷ []);
@@ -210,7 +210,7 @@ less_one_low = row less_one (bounds 100 8 1000) (input (negsuc 2147483647 ∷ []
 --         if (p->next == p) abort();
 --   return 0; /* no fault */
 -- }
-unfoldable p3 : Source
+unfoldable pub p3 : Source
 p3 = record {
   facts = record {
     names = named ((16, target.Func 0) ∷ (19, target.Local 0) ∷ (25, target.Local 0) ∷ (31, target.Func 1) ∷ (35, target.Local 0) ∷ (38, target.Local 1) ∷ (43, target.Local 1) ∷ (49, target.Local 0) ∷ (55, target.Func 0) ∷ (57, target.Local 1) ∷ (60, target.Local 0) ∷ (62, target.Field 0) ∷ (66, target.Local 0) ∷ (68, target.Field 1) ∷ (70, target.Local 0) ∷ []);
@@ -317,7 +317,7 @@ p4_same = row p4 (bounds 4 1 1000) (input (pos 2 ∷ pos 0 ∷ pos 2 ∷ []) [])
 --   assert(p->v == 1);
 --   return 0;
 -- }
-unfoldable p5 : Source
+unfoldable pub p5 : Source
 p5 = record {
   facts = record {
     names = named ((14, target.Func 0) ∷ (19, target.Local 0) ∷ (24, target.Local 1) ∷ (27, target.Local 0) ∷ (29, target.Field 0) ∷ (33, target.Local 1) ∷ (35, target.Field 0) ∷ (41, target.Local 0) ∷ (43, target.Field 0) ∷ []);
@@ -359,7 +359,7 @@ unfolding everything written shows bounds compute_program p5
 p5_second_null = row p5 (bounds 10 8 100000) (input (pos 3 ∷ pos 0 ∷ pos 0 ∷ pos 0 ∷ []) []) _ refl
 
 -- int f(int x) { if (x == 3) return 1; return 0; }
-unfoldable p8 : Source
+unfoldable pub p8 : Source
 p8 = record {
   facts = record {
     names = named ((1, target.Func 0) ∷ (4, target.Local 0) ∷ (9, target.Local 0) ∷ []);
@@ -401,7 +401,7 @@ unfolding everything written shows bounds compute_program p8
 p8_then = row p8 (bounds 100 8 4) (input (pos 3 ∷ []) []) _ refl
 
 -- int f(int x, int y) { return x / y; }
-unfoldable p9 : Source
+unfoldable pub p9 : Source
 p9 = record {
   facts = record {
     names = named ((1, target.Func 0) ∷ (4, target.Local 0) ∷ (7, target.Local 1) ∷ (11, target.Local 0) ∷ (13, target.Local 1) ∷ []);
@@ -439,7 +439,7 @@ unfolding everything written sites_at bounds compute_program p9
 p9_sites = sites_row p9 (bounds 5 8 1000) (input (negsuc 2147483647 ∷ negsuc 0 ∷ []) []) _ refl
 
 -- int f(int x) { return f(x); }
-unfoldable p10 : Source
+unfoldable pub p10 : Source
 p10 = record {
   facts = record {
     names = named ((1, target.Func 0) ∷ (4, target.Local 0) ∷ (8, target.Func 0) ∷ (10, target.Local 0) ∷ []);
@@ -469,7 +469,7 @@ unfolding everything written shows bounds compute_program p10
 p10_steps = row p10 (bounds 5 8 1000) (input (pos 0 ∷ []) []) _ refl
 
 -- int f(void) { int x; CREST_int(x); if (x > 10) return 1; return 0; }
-unfoldable p12 : Source
+unfoldable pub p12 : Source
 p12 = record {
   facts = record {
     names = named ((1, target.Func 0) ∷ (7, target.Local 0) ∷ (11, target.Local 0) ∷ (16, target.Local 0) ∷ []);
@@ -503,7 +503,7 @@ unfolding everything written shows bounds compute_program p12
 p12_taken = row p12 (bounds 100 8 1000) (input [] (pos 11 ∷ [])) _ refl
 
 -- int f(int x) { int t[2]; t[x] = 1; return 0; }
-unfoldable p13 : Source
+unfoldable pub p13 : Source
 p13 = record {
   facts = record {
     names = named ((1, target.Func 0) ∷ (4, target.Local 0) ∷ (8, target.Local 1) ∷ (13, target.Local 1) ∷ (15, target.Local 0) ∷ []);

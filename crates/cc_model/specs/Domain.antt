@@ -31,7 +31,6 @@ pub record Domain : Type 1 where
   pub act : Act V → D → Acted V D E
   pub number : ℤ → V
   pub nil : V
-  pub address : V → V
   pub offset : V → ℕ → V
   pub global : ℕ → V
   pub load : V → D → V

@@ -204,10 +204,7 @@ module _ (d : Domain) where
         value (tree.truth c) = do
           b ← truth c
           pure (truth_value b)
-        value (tree.address l) = do
-          step
-          p ← locate l
-          pure (d.address p)
+        value (tree.address l) = step >> locate l
         value (tree.call f args) = do
           step
           vs ← values args
@@ -215,8 +212,7 @@ module _ (d : Domain) where
         value (tree.malloc type) = do
           step
           steps (length type.cells)
-          p ← make type
-          pure (d.address p)
+          make type
 
         pub truth : Cond → M Bool
         truth (tree.compare t o a b) = do

@@ -181,7 +181,6 @@ plain = record {
   act = act;
   number = num;
   nil = null;
-  address = λ v. v;
   offset = offset;
   global = λ n. at (made 0) n;
   load = load;

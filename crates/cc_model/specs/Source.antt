@@ -1,5 +1,5 @@
 -- What a source is: a program with the tested function, or refused with a text.
-use Rattle.std.specs.Prelude.{ℕ, ◌≡◌, false, List, [], ◌∷◌, ◌++◌, map, Option, Some, None, Ok, Err, slice_get, codes}
+use Rattle.std.specs.Prelude.{ℕ, ◌≡◌, false, List, [], ◌∷◌, ◌++◌, length, map, Option, Some, None, Ok, Err, slice_get, codes}
 use Rattle.std.specs.Fmt.{decimal}
 use Rattle.cc_model.specs.declared.tokens.Token.{Token}
 use Rattle.cc_model.specs.declared.trees.Func as source
@@ -9,6 +9,7 @@ use Rattle.cc_model.specs.declared.trees.Program as source_program
 use Rattle.cc_model.specs.Core.{Program, Layout, int_cell}
 use Rattle.cc_model.specs.Lexical.{LexicalFault, bad_byte, bad_number, open_comment, bad_directive, tokens_of, line_at, text_of}
 use Rattle.cc_model.specs.Reads.{Accepts}
+use Rattle.cc_model.specs.OneSum.{IsOneSum}
 use Rattle.cc_model.specs.Resolve.{Facts, func_of}
 
 -- ---- names and lines
@@ -20,6 +21,14 @@ line_or_zero None = 0
 -- the line of a token
 abbrev pub line_of : List Token → ℕ → ℕ
 line_of tokens at = line_or_zero (slice_get tokens at)
+
+abbrev pub line_or_end : List ℕ → Option Token → ℕ
+line_or_end bytes (Some t) = t.line
+line_or_end bytes None = line_at bytes (length bytes)
+
+-- the line of a token, or of the source's end where there is no such token
+abbrev pub place_line : List ℕ → List Token → ℕ → ℕ
+place_line bytes tokens place = line_or_end bytes (slice_get tokens place)
 
 abbrev pub text_or_none : List ℕ → Option Token → List ℕ
 text_or_none bytes (Some t) = text_of bytes t
@@ -40,7 +49,7 @@ functions_of (item.Prototype r name params ∷ l) = functions_of l
 
 -- ---- the program
 
--- At this stage no accepted source names a variable, a field or a type, so nothing is told of them.
+-- No program that is run so far names a variable, a field or a type, so nothing is told of them.
 abbrev pub nothing : Layout
 nothing = record { type = 0; cells = [] }
 
@@ -64,6 +73,7 @@ pub record IsProgram (bytes entry : List ℕ) (p : Program) : Type 0 where
   pub func : source.Func
   pub lexed : tokens_of bytes ≡ Ok tokens
   pub read : Accepts tokens tree
+  pub kind : IsOneSum tree.items
   pub found : slice_get (functions_of tree.items) p.entry ≡ Some func
   pub named : text_at bytes tokens func.name ≡ entry
   pub core : p ≡ program_of tokens tree p.entry
@@ -102,8 +112,15 @@ HasNoEntry bytes tokens (f ∷ l) entry = (text_at bytes tokens f.name ≡ entry
 pub data Refuses (bytes entry : List ℕ) : List ℕ → Type 0 where
   -- a byte, number, comment or directive is bad
   lexical : (fault : LexicalFault) → tokens_of bytes ≡ Err fault → Refuses bytes entry (source_text (line_at bytes (offset_of fault)) (what_of fault))
-  -- the tokens are none of the programs that are accepted so far
-  not_yet : (tokens : List Token) → tokens_of bytes ≡ Ok tokens → ((tree : source_program.Program) → Accepts tokens tree → ⊥) → Refuses bytes entry not_yet_text
+  -- The tokens are no program, or a token's level is too high. Which of the two is said, and of which place, is promised
+  -- of neither so far: either text may come, for some token or for the source's end.
+  syntax : (tokens : List Token) → (place : ℕ) → tokens_of bytes ≡ Ok tokens → ((tree : source_program.Program) → Accepts tokens tree → ⊥) →
+      Refuses bytes entry (source_text (place_line bytes tokens place) (codes "syntax"))
+  too_deep : (tokens : List Token) → (place : ℕ) → tokens_of bytes ≡ Ok tokens → ((tree : source_program.Program) → Accepts tokens tree → ⊥) →
+      Refuses bytes entry (source_text (place_line bytes tokens place) (codes "too deep"))
+  -- the program is none of those that are run so far
+  not_yet : (tokens : List Token) → (tree : source_program.Program) → tokens_of bytes ≡ Ok tokens → Accepts tokens tree →
+      (IsOneSum tree.items → ⊥) → Refuses bytes entry not_yet_text
   -- no function has the name
-  no_entry : (tokens : List Token) → (tree : source_program.Program) → tokens_of bytes ≡ Ok tokens → Accepts tokens tree →
+  no_entry : (tokens : List Token) → (tree : source_program.Program) → tokens_of bytes ≡ Ok tokens → Accepts tokens tree → IsOneSum tree.items →
       HasNoEntry bytes tokens (functions_of tree.items) entry → Refuses bytes entry (no_entry_text entry)

@@ -54,7 +54,7 @@ pub struct Site {
 #[derive(Clone, Copy, Debug, PartialEq, Eq)]
 pub struct SiteId(pub u32);
 
-/// A function: the types of its parameters, of its result, and of its locals.
+/// A function: the types of its parameters, of its result, and of its locals; it has no locals where it has no body.
 #[derive(Debug, Drop)]
 pub struct Sig {
     pub params: Items<TyId>,
@@ -70,7 +70,7 @@ pub struct Checked {
     pub tys: Items<Ty>,
     /// A type's cells, for each type; none for `Void`.
     pub layouts: Items<Layout>,
-    /// The type of each expression, in order of first token and then from the outside in; `Void` for `NULL`.
+    /// The type of each expression, in order of first token and then from the outside in; `Void` for `NULL`, and for a number 0 that stands for it.
     pub expr_tys: Items<TyId>,
     /// What each token names, where it names a variable, a function or a field.
     pub names: Items<Option<Target>>,

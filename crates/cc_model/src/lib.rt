@@ -6,6 +6,7 @@ pub mod commands;
 pub mod terms;
 pub mod tokens;
 pub mod trees;
+pub mod typing;
 
 pub use cc_base as base;
 pub use checked::{Checked, Layout, Sig, Site, SiteId, SiteKind, Target, Ty};
