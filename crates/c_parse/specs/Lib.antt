@@ -1,2 +1,6 @@
-pub mod Gives
+pub mod Descent
 pub mod Shown
+pub mod Gives
+pub mod DescentStatements
+pub mod DescentItems
+pub mod ShownStatements

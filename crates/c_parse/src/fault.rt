@@ -6,12 +6,16 @@ ghost use Rattle.c_parse.specs.declared.fault.ParseFault.TheVariants.{NoMemory};
 use std::alloc::AllocError;
 use thiserror::Error;
 
-/// Why no program is given.
+/// Why no program is given. A number is a token's index, from 0; one that is the number of the tokens is the end of the file.
+/// So far it is promised that the tokens are no accepted program, and not which of the two faults is named, nor where.
 #[derive(Clone, Copy, Debug, PartialEq, Eq, Error)]
 pub enum ParseFault {
-    /// The tokens are no program of the grammar, or a token's level is above 200.
-    #[error("not yet")]
-    NotYet,
+    /// The tokens are no program of the grammar: no rule takes this one.
+    #[error("syntax error at token {0}")]
+    Syntax(u32),
+    /// The level of this token is above 200.
+    #[error("token {0} is nested too deeply")]
+    TooDeep(u32),
     /// Memory ran out.
     #[error("out of memory")]
     NoMemory,

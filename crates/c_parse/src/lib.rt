@@ -1,17 +1,28 @@
 //! The parser: which tokens are a program, and of which tree.
 #![tactic(auto)]
 
-ghost use Rattle.std.specs.Prelude.{◌≡◌, ◌≤◌, ℕ, Bool, List, IfOk, length};
+ghost use Rattle.std.specs.Prelude.{◌≡◌, ◌≤◌, ◌⊎◌, ℕ, Bool, List, IfOk, Err, length};
 ghost use Rattle.cc_model.specs.declared.tokens.Token.{Token};
 ghost use Rattle.cc_model.specs.declared.trees.Program.{Program};
 ghost use Rattle.cc_model.specs.Reads.{Accepts, Reads};
 ghost use Rattle.c_parse.specs.Gives.{GivesOnly};
 
-mod fault;
-mod parser;
-mod spot;
+mod declarations;
 #[cfg(test)]
-mod tests;
+mod expression_tests;
+mod expressions;
+mod fault;
+mod items;
+mod openings;
+mod operators;
+mod parser;
+#[cfg(test)]
+mod program_tests;
+mod simple;
+mod spot;
+mod starts;
+mod statements;
+mod types;
 
 use crate::parser::Parser;
 use crate::spot::Spot;
@@ -19,20 +30,18 @@ use cc_model::{Program, Token};
 pub use fault::ParseFault;
 use std::alloc::Global;
 
-/// The program that the tokens are; `NotYet` where they are none, `NoMemory` where memory runs out.
+/// The program that the tokens are. `Syntax` or `TooDeep` where they are accepted as none, at the token where the parser found it; `NoMemory` where memory runs out.
 pub fn parse(alloc: Global, tokens: &[Token]) -> Result<Program, ParseFault>
     requires { length tokens.now ≤ 1048576 }
-    // The tokens are the program that is given.
+    // The tokens are accepted as the program that is given.
     ensures found { IfOk result (λ p. Accepts tokens.now p) }
-    // The program that they are is given, unless memory runs out.
+    // The program that they are accepted as is given, unless memory runs out.
     ensures only { (p : Program) → Accepts tokens.now p → GivesOnly result p }
-    ensures not_yet { result ≡ Err ParseFault.NotYet → (p : Program) → Accepts tokens.now p → ⊥ }
+    // A fault of the tokens comes only where they are accepted as no program.
+    ensures refused { (k : ℕ) → (result ≡ Err (ParseFault.Syntax k)) ⊎ (result ≡ Err (ParseFault.TooDeep k)) → (p : Program) → Accepts tokens.now p → ⊥ }
 {
     let parser = Parser { alloc, tokens };
-    let (items, end) = parser.items(Spot { at: 0, level: 0 })?;
-    if parser.kind(end.at).is_some() {
-        return Err(ParseFault::NotYet);
-    }
+    let (items, _end) = parser.items(Spot { at: 0, level: 0 })?;
     Ok(Program { items })
 }
 

@@ -1,5 +1,5 @@
-use Rattle.c_parse.proofs.Unique.{reads_once}
+use Rattle.c_parse.proofs.Programs.{one}
 use Rattle.c_parse.proofs.one_program.Goals as goal
 
 pub returns : goal.returns
-returns c = reads_once
+returns c = one

@@ -1,20 +1,27 @@
-use Rattle.std.proofs.Common.{◌≡◌, ◌∙◌, None, arith}
+use Rattle.std.proofs.Common.{◌∙◌, arith, sym}
 use Rattle.std.proofs.lemmas.Grind.{common_steps}
+use Rattle.cc_model.specs.Spots.{kind_at, shallow}
+use Rattle.c_parse.specs.Descent.{got, failed}
+use Rattle.c_parse.specs.DescentItems as it
 use Rattle.c_parse.specs.Shown.{place}
-use Rattle.cc_model.specs.Reads.{kind_at, shallow, none}
-use Rattle.c_parse.proofs.FunctionLemmas.{items_found, items_only}
+use Rattle.c_parse.proofs.Pieces.{many_stop}
+use Rattle.c_parse.proofs.StmtSteps.{leaves, many_bad, many_on}
 use Rattle.c_parse.proofs.parser.Parser.items.Goals as goal
 
-pub returns-then-is_none-clause-found : goal.returns-then-is_none-clause-found
-returns-then-is_none-clause-found c = rw c.new-items.ensures none
+pub loop-here-init : goal.loop-here-init
+loop-here-init c =
+    record { onward = omega arith; goes = λ r k. k }
 
-pub returns-clause-found : goal.returns-clause-found
-returns-clause-found c =
-    items_found (kind_at c.args.self.now.tokens.now) shallow (place c.args.spot) (place c.in_ok-function.after) c.in_ok-function.function _
-    c.in_ok-function.ensures.found (rw c.new-items.ensures at c.in_ok-push.ensures.ok)
+pub returns-in_err-item : goal.returns-in_err-item
+unfolding it.items
+returns-in_err-item c =
+    let e = sym (rw c.kind.ensures.value at c.is_end.ensures.value) ∙ grind (arith, common_steps) in record { shown = leaves (it.item (kind_at c.args.self.now.tokens.now) shallow) (place c.loop-here.here) (λ m. it.items (kind_at c.args.self.now.tokens.now) shallow m) (place c.args.spot) _ _ c.from_residual.ensures c.in_err-item.ensures.shown (λ x h. (rw c.new-items.ensures at (c.loop-here.invariant.goes (failed x) (many_bad (kind_at c.args.self.now.tokens.now) shallow (λ s. it.is_end (kind_at c.args.self.now.tokens.now s.at)) (it.item (kind_at c.args.self.now.tokens.now) shallow) c.loop-here.items (place c.loop-here.here) e h)))) }
 
-pub returns-clause-only : goal.returns-clause-only
-returns-clause-only c = λ t l d n.
-    items_only (kind_at c.args.self.now.tokens.now) shallow (place c.args.spot) (place c.in_ok-function.after) t c.in_ok-function.function _ l
-    (λ e. let k : c.kind.result ≡ None = c.kind.ensures.value ∙ e in absurd (grind (arith, common_steps, k)))
-    c.in_ok-function.ensures.only (rw c.new-items.ensures at c.in_ok-push.ensures.ok) d n
+pub loop-here-preserved : goal.loop-here-preserved
+loop-here-preserved c =
+    let e = sym (rw c.kind.ensures.value at c.is_end.ensures.value) ∙ grind (arith, common_steps) in record { onward = omega (arith, c.loop-here.invariant.onward, c.in_ok-item.ensures.onward); goes = λ r k. (c.loop-here.invariant.goes r (many_on (kind_at c.args.self.now.tokens.now) shallow (λ s. it.is_end (kind_at c.args.self.now.tokens.now s.at)) (it.item (kind_at c.args.self.now.tokens.now) shallow) c.loop-here.items (place c.loop-here.here) e c.in_ok-item.ensures.shown (rw c.in_ok-push.ensures.ok at k))) }
+
+pub returns : goal.returns
+unfolding it.items
+returns c =
+    let e = sym (rw c.kind.ensures.value at c.is_end.ensures.value) ∙ grind (arith, common_steps) in record { shown = (rw c.new-items.ensures at (c.loop-here.invariant.goes (got c.loop-here.items (place c.loop-here.here)) (many_stop (kind_at c.args.self.now.tokens.now) shallow (λ s. it.is_end (kind_at c.args.self.now.tokens.now s.at)) (it.item (kind_at c.args.self.now.tokens.now) shallow) c.loop-here.items e))) }
