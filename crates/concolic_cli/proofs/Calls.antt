@@ -1,17 +1,17 @@
 -- What a call comes to, by its status.
-use Rattle.std.proofs.Common.{◌≡◌, ℕ, ◌+◌, ◌≤◌, ◌⊎◌, inl, inr, ⊎_elim, Bool, true, false, List, [], ◌++◌, refl, sym, ap, subst, ◌∙◌, arith, codes, if◌then◌else◌, nat_eq}
+use Rattle.std.proofs.Common.{◌≡◌, ℕ, ◌+◌, ◌≤◌, ◌⊎◌, ◌↔◌, Option, inl, inr, ⊎_elim, Bool, true, false, List, [], ◌++◌, refl, sym, ap, subst, ◌∙◌, arith, codes, if◌then◌else◌, nat_eq}
 use Rattle.cc_model.specs.declared.commands.Command.{Command}
 use Rattle.cc_model.specs.declared.commands.Command.TheVariants.{Run}
 use Rattle.cc_model.specs.declared.commands.RunWords.{RunWords}
 use Rattle.cc_model.specs.Listing.{Listing, IsComplete}
 use Rattle.cc_model.specs.Report.{newline, total, has_fault, verdict_of}
 use Rattle.cc_model.specs.Source.{Refuses}
-use Rattle.cc_model.specs.Words.{Accepted, BadWord, run_words}
+use Rattle.cc_model.specs.Words.{Accepted, BadWord, default_limits, run_words}
 use Rattle.cc_outside.specs.Faults.{Rose}
 use Rattle.concolic_cli.specs.declared.refusal.Refusal.{Refusal}
 use Rattle.concolic_cli.specs.declared.refusal.Refusal.TheVariants as refusal
-use Rattle.concolic_cli.specs.Concolic.{Call, Answered, bad, listed, refused, word_of, Headline, ReportIsBegun, PartOfReport, nothing, part, SourceIsRefused, FileFault, FileIsRefused}
-use Rattle.concolic_cli.specs.Refusals.{bad_word_text, file_text, Says, IsAnswered}
+use Rattle.concolic_cli.specs.Concolic.{Call, Answered, bad, listed, refused, word_of, HasNoCommand, Headline, ReportIsBegun, PartOfReport, nothing, part, SourceIsRefused, FileFault, FileIsRefused}
+use Rattle.concolic_cli.specs.Refusals.{bad_word_text, file_text, Says, status_of, IsAnswered}
 use Rattle.concolic_cli.specs.Session.{ReadAs, Lists, Seen, Listed, ReportBegun, Stands, SourceRefused, FileRefused, Cause, SourceCause}
 use Rattle.concolic_cli.specs.Session as session
 use Rattle.concolic_cli.proofs.Forms.{form_of}
@@ -27,6 +27,16 @@ least_runs words c r a e =
   where
     runs_same : (n d : ℕ) (r : RunWords) → run_words n d ≡ Run r → n ≡ r.runs
     runs_same n d r e = cc e
+
+pub least_steps : (words : List (List ℕ)) (c : Command) (r : RunWords) → Accepted words c → c ≡ Run r → (r.bounds).depth + 20002 ≤ (r.bounds).steps
+least_steps words c r a e =
+    let f = form_of words c a in
+    let high : f.depth ≤ 1024 = f.depth_high in
+    let same : default_limits f.depth ≡ r.bounds = bounds_same f.runs f.depth r (sym f.command_is ∙ e) in
+    subst (λ b. b.depth + 20002 ≤ b.steps) same (omega (arith, high))
+  where
+    bounds_same : (n d : ℕ) (r : RunWords) → run_words n d ≡ Run r → default_limits d ≡ r.bounds
+    bounds_same n d r e = cc e
 
 pub accepted_as : (words : List (List ℕ)) (c : Command) (r : RunWords) → Accepted words c → c ≡ Run r → Accepted words (Run r)
 accepted_as words c r a e = subst (λ d. Accepted words d) e a
@@ -52,6 +62,51 @@ refused_call call status run why file entry f e a cause answered =
     (subst (λ u. IsAnswered call.err_old call.err_new call.err_faults_old call.err_faults_new file u why status) e answered) in
     refused run why a c s
 
+-- ---- status 2
+
+-- the verdict of a complete listing
+one_or_none : (b : Bool) (n : ℕ) → ((if true then 0 else 10) + (if b then 1 else 0) ≡ 0) ⊎ ((if true then 0 else 10) + (if b then 1 else 0) ≡ 1)
+one_or_none true n = inr refl
+one_or_none false n = inl refl
+
+verdict_is : (l : Listing) → IsComplete l → (verdict_of l ≡ 0) ⊎ (verdict_of l ≡ 1)
+verdict_is l c =
+    let e : verdict_of l ≡ (if true then 0 else 10) + (if has_fault l.items then 1 else 0) = ap (λ k. (if nat_eq (total k) 0 then 0 else 10) + (if has_fault l.items then 1 else 0)) c in
+    ⊎_elim (λ h. inl (e ∙ h)) (λ h. inr (e ∙ h)) (one_or_none (has_fault l.items) 0)
+
+-- 2 where the words are bad
+pub bad_words_bad : (words : List (List ℕ)) (status n : ℕ) (old new : Option (List ℕ)) (faults_old faults_new : ℕ) → BadWord words n →
+    IsAnswered old new faults_old faults_new [] [] (refusal.BadWord n) status → (status ≡ 2) ↔ HasNoCommand words
+bad_words_bad words status n old new faults_old faults_new b (inl h) = (λ _. b.refused, λ _. h.0)
+bad_words_bad words status n old new faults_old faults_new b (inr h) = absurd (cc h.0)
+
+has_command : (words : List (List ℕ)) (status : ℕ) (run : RunWords) → Accepted words (Run run) → (status ≡ 2 → ⊥) → (status ≡ 2) ↔ HasNoCommand words
+has_command words status run a other = (λ h. absurd (other h), λ none. absurd (none (Run run) a))
+
+-- and not where a session ends
+pub listed_words : (seen : Seen) (words : List (List ℕ)) (status : ℕ) (run : RunWords) (file entry : List ℕ) → Accepted words (Run run) → Listed seen file entry run.bounds run.runs status →
+    (status ≡ 2) ↔ HasNoCommand words
+listed_words seen words status run file entry a l =
+    let v = l.verdict in
+    has_command words status run a (λ h. ⊎_elim (λ e. omega (arith, e, v, h)) (λ e. omega (arith, e, v, h)) (verdict_is l.listing l.lists.listing.complete))
+
+-- or is refused
+pub refused_words : (seen : Seen) (words : List (List ℕ)) (status : ℕ) (run : RunWords) (why : Refusal) (file entry : List ℕ) (old new : Option (List ℕ)) (faults_old faults_new : ℕ) →
+    Accepted words (Run run) → Cause seen file entry run.bounds run.runs why → IsAnswered old new faults_old faults_new file entry why status → (status ≡ 2) ↔ HasNoCommand words
+refused_words seen words status run why file entry old new faults_old faults_new a cause (inr h) = has_command words status run a (λ e. omega (arith, e, h.1))
+refused_words seen words status run why file entry old new faults_old faults_new a cause (inl h) = has_command words status run a (λ e. not_two why cause (sym h.0 ∙ e))
+  where
+    not_two : (why : Refusal) → Cause seen file entry run.bounds run.runs why → status_of why ≡ 2 → ⊥
+    not_two (refusal.BadWord n) c e = c
+    not_two refusal.Missing c e = cc e
+    not_two refusal.TooLong c e = cc e
+    not_two refusal.FileFailed c e = cc e
+    not_two (refusal.Source line wrong) c e = cc e
+    not_two refusal.NotYet c e = cc e
+    not_two refusal.NoEntry c e = cc e
+    not_two refusal.OutputFailed c e = cc e
+    not_two refusal.NoMemory c e = cc e
+
 -- ---- by status
 
 abbrev Said : Call → List ℕ → Type 0
@@ -75,16 +130,6 @@ pub data Ending (call : Call) (status : ℕ) : Type 0 where
       Says call.err_old call.err_new call.err_faults_old call.err_faults_new (codes "output failed" ++ newline) → Ending call status
   at_memory : (run : RunWords) → Accepted call.words (Run run) → status ≡ 7 → PartOfReport call.words (call.seen).held (call.seen).out_old (call.seen).out_new →
       Says call.err_old call.err_new call.err_faults_old call.err_faults_new (codes "no memory" ++ newline) → Ending call status
-
--- the verdict of a complete listing
-one_or_none : (b : Bool) (n : ℕ) → ((if true then 0 else 10) + (if b then 1 else 0) ≡ 0) ⊎ ((if true then 0 else 10) + (if b then 1 else 0) ≡ 1)
-one_or_none true n = inr refl
-one_or_none false n = inl refl
-
-verdict_is : (l : Listing) → IsComplete l → (verdict_of l ≡ 0) ⊎ (verdict_of l ≡ 1)
-verdict_is l c =
-    let e : verdict_of l ≡ (if true then 0 else 10) + (if has_fault l.items then 1 else 0) = ap (λ k. (if nat_eq (total k) 0 then 0 else 10) + (if has_fault l.items then 1 else 0)) c in
-    ⊎_elim (λ h. inl (e ∙ h)) (λ h. inr (e ∙ h)) (one_or_none (has_fault l.items) 0)
 
 begun : (call : Call) (run : RunWords) → Accepted call.words (Run run) → ReportBegun call.seen (word_of call.words run.file) (word_of call.words run.entry) run.bounds run.runs →
     ReportIsBegun call.words (call.seen).held (call.seen).out_old (call.seen).out_new

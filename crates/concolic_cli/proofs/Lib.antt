@@ -1,5 +1,6 @@
 pub mod Numerals
 pub mod Forms
+mod SumKinds
 mod SumRuns
 mod SumBytes
 mod SumPrograms

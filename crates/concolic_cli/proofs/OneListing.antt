@@ -1,5 +1,5 @@
 -- The listing of the one path of a program that returns a sum.
-use Rattle.std.proofs.Common.{◌≡◌, ℕ, ◌+◌, ◌≤◌, inl, inr, ⊎_elim, List, [], ◌∷◌, refl, sym, ap, subst, arith, All}
+use Rattle.std.proofs.Common.{◌≡◌, ℕ, ◌+◌, ◌≤◌, inl, inr, ⊎_elim, List, [], ◌∷◌, refl, sym, ap, subst, arith, codes, All}
 use Rattle.cc_base.specs.declared.inputs.Test.{Test}
 use Rattle.cc_base.specs.Limits.{Limits}
 use Rattle.cc_base.specs.Outcomes.{HasByte}
@@ -15,15 +15,18 @@ use Rattle.cc_model.specs.Tested.{tested, Real}
 use Rattle.cc_model.specs.Listing.{Item, test_item, past_item, stray_item, spent_item, unrun_item, at_steps, WasRun, ClosedAt}
 use Rattle.cc_model.specs.Lexical.{line_at}
 use Rattle.cc_model.specs.Report.{report_text, verdict_of}
-use Rattle.cc_model.specs.Source.{program_of, line_of, offset_of, source_text, Refuses, lexical, not_yet}
+use Rattle.cc_model.specs.OneSum.{ReturnsSum}
+use Rattle.cc_model.specs.Source.{program_of, line_of, offset_of, source_text, Refuses, lexical, syntax, too_deep, not_yet}
 use Rattle.cc_base.specs.declared.ends.End.{End}
+use Rattle.concolic_cli.specs.declared.refusal.Wrong.{Wrong}
+use Rattle.concolic_cli.specs.declared.refusal.Wrong.TheVariants as wrong
 use Rattle.concolic_cli.specs.declared.refusal.Refusal.{Refusal}
 use Rattle.concolic_cli.specs.declared.refusal.Refusal.TheVariants as refused
 use Rattle.concolic_cli.specs.declared.report.Report.{Report}
 use Rattle.concolic_cli.specs.Lines.{text_of, ReportsOn}
 use Rattle.concolic_cli.specs.Refusals.{what_text}
 use Rattle.concolic_cli.specs.OneTest.{no_input, test_of, one_test}
-use Rattle.concolic_cli.specs.Programs.{ReadsAs, IsNoProgram, IsNamed, Returns}
+use Rattle.concolic_cli.specs.Programs.{ReadsAs, IsLexical, IsWrong, IsNoProgram, IsNamed}
 use Rattle.concolic_cli.specs.Session.{IsListing, Lists, SourceCause}
 use Rattle.concolic_cli.specs.Sums.{SumRun, sum_run, end_of_summed}
 use Rattle.concolic_cli.proofs.SumPrograms.{Sum_program, sum_program}
@@ -89,12 +92,12 @@ module _ (b : Limits) (p : Program) (r : SumRun) (w : Sum_program b p r) where
   }
 
 pub listed : (bytes entry : List ℕ) (tokens : List Token) (tree : source_program.Program) (b : Limits) (runs n : ℕ) (f : source.Func) (e : Expr) (r : SumRun) →
-    ReadsAs bytes tokens tree → IsNamed bytes tokens tree.items n entry f → Returns f e → 201 ≤ b.steps → 1 ≤ runs → sum_run b.depth (line_of tokens) e [] ≡ r →
+    ReadsAs bytes tokens tree → IsNamed bytes tokens tree.items n entry f → ReturnsSum f e → b.depth + 20002 ≤ b.steps → 1 ≤ runs → sum_run b.depth (line_of tokens) e [] ≡ r →
     Lists bytes entry b runs (program_of tokens tree n) (one_test b r.path (end_of_summed r.result)) × (at_steps (end_of_summed r.result) ≡ 0) × All HasByte r.path
 listed bytes entry tokens tree b runs n f e r reads named ret steps least is =
-    let w = subst (λ u. Sum_program b (program_of tokens tree n) u) is (sum_program tokens tree b n f e reads.read named.0 ret steps) in (
+    let w = subst (λ u. Sum_program b (program_of tokens tree n) u) is (sum_program tokens tree b n f e reads.kind named.0 ret steps) in (
       record {
-        program = record { tokens = tokens; tree = tree; func = f; lexed = reads.lexed; read = reads.read; found = named.0; named = named.1; core = refl };
+        program = record { tokens = tokens; tree = tree; func = f; lexed = reads.lexed; read = reads.read; kind = reads.kind; found = named.0; named = named.1; core = refl };
         listing = is_listing b (program_of tokens tree n) r w runs least;
       },
       w.in_time,
@@ -114,7 +117,7 @@ is_run_of tokens tokens' depth depth' e path end t d p q =
     subst (λ u. IsRunOf u depth e path end) t (subst (λ n. IsRunOf tokens' n e path end) d (record { path_is = p; end_is = q }))
 
 pub run_facts : (bytes entry : List ℕ) (tokens : List Token) (tree : source_program.Program) (b : Limits) (runs n : ℕ) (f : source.Func) (e : Expr) (path : Path) (end : End) →
-    ReadsAs bytes tokens tree → IsNamed bytes tokens tree.items n entry f → Returns f e → 201 ≤ b.steps → 1 ≤ runs → IsRunOf tokens b.depth e path end →
+    ReadsAs bytes tokens tree → IsNamed bytes tokens tree.items n entry f → ReturnsSum f e → b.depth + 20002 ≤ b.steps → 1 ≤ runs → IsRunOf tokens b.depth e path end →
     Lists bytes entry b runs (program_of tokens tree n) (one_test b path end) × (at_steps end ≡ 0) × All HasByte path
 run_facts bytes entry tokens tree b runs n f e path end reads named ret steps least ran =
     let r = sum_run b.depth (line_of tokens) e [] in
@@ -123,7 +126,7 @@ run_facts bytes entry tokens tree b runs n f e path end reads named ret steps le
     (subst (λ q. Lists bytes entry b runs (program_of tokens tree n) (one_test b r.path q) × (at_steps q ≡ 0) × All HasByte r.path) (sym ran.end_is) all)
 
 pub reports_on : (bytes entry : List ℕ) (tokens : List Token) (tree : source_program.Program) (b : Limits) (runs n : ℕ) (f : source.Func) (e : Expr) (path : Path) (end : End) (r : Report) →
-    ReadsAs bytes tokens tree → IsNamed bytes tokens tree.items n entry f → Returns f e → 201 ≤ b.steps → 1 ≤ runs → IsRunOf tokens b.depth e path end →
+    ReadsAs bytes tokens tree → IsNamed bytes tokens tree.items n entry f → ReturnsSum f e → b.depth + 20002 ≤ b.steps → 1 ≤ runs → IsRunOf tokens b.depth e path end →
     text_of r ≡ report_text (one_test b path end) → r.status ≡ verdict_of (one_test b path end) → ReportsOn bytes entry b runs r
 reports_on bytes entry tokens tree b runs n f e path end r reads named ret steps least ran text verdict = record {
   program = program_of tokens tree n;
@@ -133,11 +136,23 @@ reports_on bytes entry tokens tree b runs n f e path end r reads named ret steps
   verdict = verdict;
 }
 
--- a source that is no program is refused for that cause
+-- a bad byte, number, comment or directive
+lexical_cause : (bytes entry : List ℕ) (line : ℕ) (what : List ℕ) → IsLexical bytes line what → Refuses bytes entry (source_text line what)
+lexical_cause bytes entry line what h =
+    subst (λ l. Refuses bytes entry (source_text l what)) (sym h.2) (subst (λ w. Refuses bytes entry (source_text (line_at bytes (offset_of h.0)) w)) (sym h.3) (lexical h.0 h.1))
+
+wrong_cause : (bytes entry : List ℕ) (line : ℕ) (w : Wrong) → IsWrong bytes line w → Refuses bytes entry (source_text line (what_text w))
+wrong_cause bytes entry line wrong.BadByte h = lexical_cause bytes entry line _ h
+wrong_cause bytes entry line wrong.BadNumber h = lexical_cause bytes entry line _ h
+wrong_cause bytes entry line wrong.OpenComment h = lexical_cause bytes entry line _ h
+wrong_cause bytes entry line wrong.BadDirective h = lexical_cause bytes entry line _ h
+wrong_cause bytes entry line wrong.Syntax h = subst (λ l. Refuses bytes entry (source_text l (codes "syntax"))) (sym h.3) (syntax h.0 h.1 h.2 h.4)
+wrong_cause bytes entry line wrong.TooDeep h = subst (λ l. Refuses bytes entry (source_text l (codes "too deep"))) (sym h.3) (too_deep h.0 h.1 h.2 h.4)
+
+-- a source that is no program that is run so far is refused for that cause
 pub no_program_cause : (bytes entry : List ℕ) (e : Refusal) → IsNoProgram bytes e → SourceCause bytes entry e
-no_program_cause bytes entry (refused.Source line wrong) h =
-    subst (λ l. Refuses bytes entry (source_text l (what_text wrong))) (sym h.2) (subst (λ w. Refuses bytes entry (source_text (line_at bytes (offset_of h.0)) w)) (sym h.3) (lexical h.0 h.1))
-no_program_cause bytes entry refused.NotYet h = not_yet h.0 h.1 h.2
+no_program_cause bytes entry (refused.Source line w) h = wrong_cause bytes entry line w h
+no_program_cause bytes entry refused.NotYet h = not_yet h.0 h.1 h.2 h.3 h.4
 no_program_cause bytes entry refused.NoMemory h = tt
 no_program_cause bytes entry (refused.BadWord n) h = h
 no_program_cause bytes entry refused.Missing h = h

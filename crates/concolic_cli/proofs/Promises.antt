@@ -1,18 +1,20 @@
 -- Each promise of a call, from what it comes to.
-use Rattle.std.proofs.Common.{◌≡◌, ℕ, zero, suc, ◌<◌, ◌≤◌, ◌⊎◌, inl, inr, ⊎_elim, List, [], ◌∷◌, ◌++◌, length, Option, Some, None, sym, ap, subst, ◌∙◌, arith, codes, slice_get, ◌↔◌, Bool}
+use Rattle.std.proofs.Common.{◌≡◌, ℕ, zero, suc, ◌<◌, ◌≤◌, ◌⊎◌, inl, inr, ⊎_elim, List, [], ◌∷◌, ◌++◌, length, Option, Some, None, Ok, sym, ap, subst, ◌∙◌, arith, codes, slice_get, Bool}
 use Rattle.cc_model.specs.declared.commands.Command.TheVariants.{Run}
 use Rattle.cc_model.specs.declared.commands.RunWords.{RunWords}
 use Rattle.cc_model.specs.declared.tokens.Token.{Token}
 use Rattle.cc_model.specs.declared.trees.Func as source
 use Rattle.cc_model.specs.declared.trees.Program as source_program
 use Rattle.cc_model.specs.Core.{Program}
+use Rattle.cc_model.specs.Lexical.{tokens_of}
+use Rattle.cc_model.specs.OneSum.{IsOneSum}
 use Rattle.cc_model.specs.Reads.{Reads, Accepts, shallow}
 use Rattle.cc_model.specs.Report.{newline}
-use Rattle.cc_model.specs.Source.{IsProgram, Refuses, lexical, not_yet, no_entry, HasNoEntry, functions_of, text_at}
+use Rattle.cc_model.specs.Source.{IsProgram, Refuses, lexical, syntax, too_deep, not_yet, no_entry, HasNoEntry, functions_of, text_at}
 use Rattle.cc_model.specs.Words.{Accepted, BadWord}
 use Rattle.cc_outside.specs.Faults.{Rose}
 use Rattle.cc_outside.specs.Held.{Held, file_of}
-use Rattle.concolic_cli.specs.Concolic.{Call, word_of, HasNoCommand, IsSource, IsSession, Headline, PartOfReport, nothing, part, SourceIsRefused, FileFault, FileIsRefused}
+use Rattle.concolic_cli.specs.Concolic.{Call, word_of, IsSource, IsSession, Headline, PartOfReport, nothing, part, SourceIsRefused, FileFault, FileIsRefused}
 use Rattle.concolic_cli.specs.Refusals.{bad_word_text, Says}
 use Rattle.concolic_cli.specs.Session.{ReadAs}
 use Rattle.concolic_cli.proofs.Forms.{accepted_once}
@@ -30,14 +32,25 @@ no_entry_found bytes tokens name (k ∷ l) (suc n) f h g e = no_entry_found byte
 abbrev pub OneProgram : Type 0
 OneProgram = (fits : ℕ → ℕ → Bool) (tokens : List Token) (p q : source_program.Program) → Reads fits tokens p → Reads fits tokens q → p ≡ q
 
+-- the tokens of a program are a program
+read_unread : (bytes entry : List ℕ) (p : Program) → (i : IsProgram bytes entry p) → (tokens : List Token) → tokens_of bytes ≡ Ok tokens → ((tree : source_program.Program) → Accepts tokens tree → ⊥) → ⊥
+read_unread bytes entry p i tokens h none = let same : i.tokens ≡ tokens = cc (i.lexed, h) in none i.tree (subst (λ u. Accepts u i.tree) same i.read)
+
+-- and one program alone
+read_once : OneProgram → (bytes entry : List ℕ) (p : Program) → (i : IsProgram bytes entry p) → (tokens : List Token) (tree : source_program.Program) → tokens_of bytes ≡ Ok tokens → Accepts tokens tree →
+    (i.tokens ≡ tokens) × (i.tree ≡ tree)
+read_once one bytes entry p i tokens tree h read = let same : i.tokens ≡ tokens = cc (i.lexed, h) in (same, one shallow tokens i.tree tree (subst (λ u. Accepts u i.tree) same i.read) read)
+
 accepted_refused : OneProgram → (bytes entry : List ℕ) (p : Program) (text : List ℕ) → IsProgram bytes entry p → Refuses bytes entry text → ⊥
 accepted_refused one bytes entry p _ i (lexical fault h) = cc (i.lexed, h)
-accepted_refused one bytes entry p _ i (not_yet tokens h none) = let same : i.tokens ≡ tokens = cc (i.lexed, h) in none i.tree (subst (λ u. Accepts u i.tree) same i.read)
-accepted_refused one bytes entry p _ i (no_entry tokens tree h read none) =
-    let same : i.tokens ≡ tokens = cc (i.lexed, h) in
-    let tree_same : i.tree ≡ tree = one shallow tokens i.tree tree (subst (λ u. Accepts u i.tree) same i.read) read in
-    no_entry_found bytes tokens entry (functions_of tree.items) p.entry i.func none (subst (λ u. slice_get (functions_of u.items) p.entry ≡ Some i.func) tree_same i.found)
-    (subst (λ u. text_at bytes u i.func.name ≡ entry) same i.named)
+accepted_refused one bytes entry p _ i (syntax tokens place h none) = read_unread bytes entry p i tokens h none
+accepted_refused one bytes entry p _ i (too_deep tokens place h none) = read_unread bytes entry p i tokens h none
+accepted_refused one bytes entry p _ i (not_yet tokens tree h read other) =
+    let same = read_once one bytes entry p i tokens tree h read in other (subst (λ u. IsOneSum u.items) same.1 i.kind)
+accepted_refused one bytes entry p _ i (no_entry tokens tree h read kind none) =
+    let same = read_once one bytes entry p i tokens tree h read in
+    no_entry_found bytes tokens entry (functions_of tree.items) p.entry i.func none (subst (λ u. slice_get (functions_of u.items) p.entry ≡ Some i.func) same.1 i.found)
+    (subst (λ u. text_at bytes u i.func.name ≡ entry) same.0 i.named)
 
 -- the words are those of one session
 one_run : (words : List (List ℕ)) (r s : RunWords) → Accepted words (Run r) → Accepted words (Run s) → r ≡ s
@@ -58,14 +71,6 @@ module _ (call : Call) (status : ℕ) (answered : Ending call status) where
   abbrev Said : List ℕ → Type 0
   Said line = Says call.err_old call.err_new call.err_faults_old call.err_faults_new line
 
-  no_words : (e : Ending call status) → HasNoCommand call.words → status ≡ 2
-  no_words (at_words n b e s t) h = e
-  no_words (at_report e l q) h = absurd (h (Run l.run) l.session.accepted)
-  no_words (at_source e r q) h = absurd (h (Run r.run) r.session.accepted)
-  no_words (at_file e r q) h = absurd (h (Run r.run) r.accepted)
-  no_words (at_output e r p t) h = absurd (h (Run p.run) p.session.accepted)
-  no_words (at_memory run a e p t) h = absurd (h (Run run) a)
-
   words_bad : (e : Ending call status) → status ≡ 2 → (n : ℕ) × BadWord call.words n × Said (bad_word_text n ++ newline)
   words_bad (at_words n b e s t) h = (n, b, t)
   words_bad (at_report e l q) h = absurd (⊎_elim (λ z. omega (arith, z, h)) (λ z. omega (arith, z, h)) e)
@@ -73,9 +78,6 @@ module _ (call : Call) (status : ℕ) (answered : Ending call status) where
   words_bad (at_file e r q) h = absurd (omega (arith, e, h))
   words_bad (at_output e r p t) h = absurd (omega (arith, e, h))
   words_bad (at_memory run a e p t) h = absurd (omega (arith, e, h))
-
-  pub bad_words : (status ≡ 2) ↔ HasNoCommand call.words
-  bad_words = (λ h. (words_bad answered h).1.refused, no_words answered)
 
   pub bad_word : status ≡ 2 → (n : ℕ) × BadWord call.words n × Says call.err_old call.err_new call.err_faults_old call.err_faults_new (bad_word_text n ++ newline)
   bad_word = words_bad answered

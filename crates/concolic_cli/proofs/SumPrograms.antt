@@ -1,6 +1,5 @@
 -- Programs that return a sum: every input takes the one path of the sum.
-use Rattle.std.proofs.Common.{◌≡◌, ℕ, zero, suc, ◌+◌, ◌≤◌, true, List, [], ◌∷◌, ◌++◌, length, map, Option, Some, refl, sym, ap, subst, ◌∙◌, arith, slice_get, append-nil, All}
-use Rattle.std.proofs.lemmas.Bool.{leb-true}
+use Rattle.std.proofs.Common.{◌≡◌, ℕ, zero, suc, ◌+◌, ◌-◌, ◌≤◌, List, [], ◌∷◌, ◌++◌, length, map, Some, refl, sym, ap, subst, ◌∙◌, arith, slice_get, append-nil, All}
 use Rattle.std.proofs.lemmas.Option.{slice_get_past}
 use Rattle.cc_base.specs.declared.outcomes.Outcome.{Outcome}
 use Rattle.cc_base.specs.declared.ends.End.TheVariants.{Return}
@@ -8,7 +7,6 @@ use Rattle.cc_base.specs.declared.inputs.Input.{Input}
 use Rattle.cc_base.specs.Limits.{Limits}
 use Rattle.cc_base.specs.Outcomes.{HasByte}
 use Rattle.cc_base.specs.Paths.{Path}
-use Rattle.cc_model.specs.declared.tokens.Kind.{Kind}
 use Rattle.cc_model.specs.declared.tokens.Token.{Token}
 use Rattle.cc_model.specs.Core as core
 use Rattle.cc_model.specs.Core.{Val, Cell, Func, Parts, Program}
@@ -16,12 +14,11 @@ use Rattle.cc_model.specs.Meaning.{Fixed, Entry, Result, Ran, returned, prepend,
 use Rattle.cc_model.specs.Plain.{plain, Value, Data}
 use Rattle.cc_model.specs.declared.trees.Expr.{Expr}
 use Rattle.cc_model.specs.declared.trees.Stmt.TheVariants as stmt
-use Rattle.cc_model.specs.declared.trees.Part.TheVariants as part
 use Rattle.cc_model.specs.declared.trees.Item.{Item}
 use Rattle.cc_model.specs.declared.trees.Func as source
 use Rattle.cc_model.specs.declared.trees.Program as source_program
-use Rattle.cc_model.specs.Reads.{Spot, start, passed, opened, back, closed, Operand, number, Sums, more, Statement, Block, braces, NoParams, Function, Items, Accepts, shallow, kind_at, Reads}
-use Rattle.cc_model.specs.Reads as reads
+use Rattle.cc_model.specs.OneSum as kind
+use Rattle.cc_model.specs.OneSum.{IsSum, deepest, ReturnsSum, IsOneSum}
 use Rattle.cc_model.specs.Resolve.{value_of, func_of, body_of, parts_of, param_of}
 use Rattle.cc_model.specs.Source.{functions_of, no_facts, program_of, line_of}
 use Rattle.cc_model.specs.Listing.{at_steps}
@@ -29,9 +26,8 @@ use Rattle.cc_model.specs.Runs.{path_of, end_of, run, run_of, begin_of, fixed_of
 use Rattle.cc_model.proofs.Resolved.{stmt_return, piece_stmt}
 use Rattle.concolic_cli.specs.declared.sums.Summed.{Summed}
 use Rattle.concolic_cli.specs.declared.sums.Summed.TheVariants as summed
-use Rattle.concolic_cli.specs.Programs.{Returns}
-use Rattle.concolic_cli.specs.Sums.{SumRun, is_sum, sum_run, end_of_summed}
-use Rattle.concolic_cli.proofs.SumBytes.{summing}
+use Rattle.concolic_cli.specs.Sums.{SumRun, sum_run, end_of_summed}
+use Rattle.concolic_cli.proofs.SumBytes.{sum_bytes}
 use Rattle.concolic_cli.proofs.SumRuns.{St, state, Handler, Comes, Evaluated, sums_shown}
 
 -- a function that returns a value of this expression
@@ -65,51 +61,22 @@ finished_shown x h depth events n l d (summed.Over e) log res c =
     subst (λ res. Ended (path_of plain log) (summed.Over e) (finished x h (record { log = log; result = res }))) (sym c.1)
     (record { path = refl; end = refl; in_time = c.2 })
 
--- ---- what is accepted
+-- ---- what is run so far
 
--- a function that returns the sum e, which stands in one pair of brackets
-pub record Sum_func (tok : ℕ → Option Kind) (f : source.Func) (e : Expr) : Type 0 where
-  pub word : ℕ
-  pub from : Spot
-  pub to : Spot
-  pub sums : Sums tok shallow from to e
-  pub level : from.level ≡ 1
-  pub deep : to.level ≤ 200
-  pub params : f.params ≡ []
-  pub body : f.body ≡ part.Stmt (stmt.Return word (Some e)) ∷ []
+-- the one function of the items, and its sum
+found_sum : (items : List Item) → IsOneSum items → (n : ℕ) (f : source.Func) → slice_get (functions_of items) n ≡ Some f → (n ≡ 0) × (functions_of items ≡ f ∷ []) × (e : Expr) × ReturnsSum f e
+found_sum _ kind.nothing n f g = let past = slice_get_past {X = source.Func} [] n (omega arith) in absurd (cc (g, past))
+found_sum _ (kind.one {f = f'} {e = e} r) zero f g = let same : f' ≡ f = cc g in (refl, ap (λ u. u ∷ []) same, e, subst (λ u. ReturnsSum u e) same r)
+found_sum _ (kind.one {f = f'} {e = e} r) (suc n) f g = let past = slice_get_past {X = source.Func} (f' ∷ []) (suc n) (omega arith) in absurd (cc (g, past))
 
-shallow_le : (i n : ℕ) → shallow i n ≡ true → n ≤ 200
-shallow_le i n h = leb-true n 200 h
+-- each function of the items returns a sum
+pub returns_sum : (items : List Item) → IsOneSum items → (n : ℕ) (f : source.Func) → slice_get (functions_of items) n ≡ Some f → (e : Expr) × ReturnsSum f e
+returns_sum items k n f g = let r = found_sum items k n f g in (r.2, r.3)
 
-deep_of : (tok : ℕ → Option Kind) {s t : Spot} {e : Expr} → Sums tok shallow s t e → t.level ≤ 200
-deep_of tok (reads.one (number {s = s} z h)) = shallow_le s.at s.level h.1
-deep_of tok (more p make a e i (number {s = s} z h)) = shallow_le s.at s.level h.1
+-- ---- the run of such a program
 
-sum_func : (tok : ℕ → Option Kind) {s t : Spot} {f : source.Func} → Function tok shallow s t f → s.level ≡ 0 → (e : Expr) × Sum_func tok f e
-sum_func tok (reads.int k n (reads.empty o c) (braces b (reads.return {s = w} {t = u} {a = e} r sums semi) e')) h =
-    (e, record { word = w.at; from = passed w; to = u; sums = sums; level = omega (arith, h); deep = deep_of tok sums; params = refl; body = refl })
-sum_func tok (reads.int k n (reads.void o v c) (braces b (reads.return {s = w} {t = u} {a = e} r sums semi) e')) h =
-    (e, record { word = w.at; from = passed w; to = u; sums = sums; level = omega (arith, h); deep = deep_of tok sums; params = refl; body = refl })
-
--- the one function of what is accepted
-found_func : (tok : ℕ → Option Kind) {s t : Spot} {items : List Item} → Items tok shallow s t items → s.level ≡ 0 → (n : ℕ) (f : source.Func) →
-    slice_get (functions_of items) n ≡ Some f → (n ≡ 0) × (functions_of items ≡ f ∷ []) × (e : Expr) × Sum_func tok f e
-found_func tok reads.none h n f g = let past = slice_get_past {X = source.Func} [] n (omega arith) in absurd (cc (g, past))
-found_func tok (reads.one {f = f'} i) h zero f g = let e : f' ≡ f = cc g in let r = subst (λ u. (e : Expr) × Sum_func tok u e) e (sum_func tok i h) in (refl, ap (λ u. u ∷ []) e, r.0, r.1)
-found_func tok (reads.one {f = f'} i) h (suc n) f g = let past = slice_get_past {X = source.Func} (f' ∷ []) (suc n) (omega arith) in absurd (cc (g, past))
-
--- a function returns at most one expression
-only_sum : (f : source.Func) (e u : Expr) (w v : ℕ) → f.body ≡ part.Stmt (stmt.Return w (Some e)) ∷ [] → f.body ≡ part.Stmt (stmt.Return v (Some u)) ∷ [] → e ≡ u
-only_sum f e u w v h k = cc (h, k)
-
--- each function of an accepted program returns a sum
-pub returns_of : (tokens : List Token) (tree : source_program.Program) → Accepts tokens tree → (n : ℕ) (f : source.Func) → slice_get (functions_of tree.items) n ≡ Some f → (e : Expr) × Returns f e
-returns_of tokens tree a n f g = let r = found_func (kind_at tokens) a.items refl n f g in (r.2, (r.3.word, r.3.body))
-
--- ---- the run of an accepted program
-
-func_is : (tok : ℕ → Option Kind) (f : source.Func) (e : Expr) → Sum_func tok f e → func_of no_facts f ≡ returning core.int_cell (value_of no_facts e)
-func_is tok f e g =
+func_is : (f : source.Func) (e : Expr) → ReturnsSum f e → func_of no_facts f ≡ returning core.int_cell (value_of no_facts e)
+func_is f e g =
     let made : List Cell → Parts → Func = λ ps b. record { params = ps; result = core.int_cell; body = b } in
     let params : map (param_of no_facts) f.params ≡ [] = ap (λ u. map (param_of no_facts) u) g.params in
     let piece = piece_stmt no_facts (stmt.Return g.word (Some e)) in
@@ -118,39 +85,35 @@ func_is tok f e g =
     ap (λ u. body_of no_facts u) g.body ∙ (ap (λ q. parts_of (q ∷ [])) piece ∙ ap (λ q. core.then q core.finish) returned) in
     ap (λ u. made u (body_of no_facts f.body)) params ∙ ap (λ u. made [] u) body
 
--- the steps of the body and of the return, and those of the operators
-enough : (steps : ℕ) → 201 ≤ steps → (n : ℕ) × (steps ≡ suc (suc n)) × (199 ≤ n)
-enough zero h = absurd (omega (arith, h))
-enough (suc zero) h = absurd (omega (arith, h))
-enough (suc (suc n)) h = (n, refl, omega (arith, h))
+-- the steps of the body and of the return, one for each event, and one for each operator that another stands in
+enough : (steps depth n : ℕ) → depth + (n + 2) ≤ steps → (c : ℕ) × (steps ≡ suc (suc (c + depth))) × (n ≤ c)
+enough steps depth n h = (steps - (depth + 2), omega (arith, h), omega (arith, h))
 
-main_shown : (tok : ℕ → Option Kind) (x : Fixed) (c : Cell) (e : Expr) (s t : Spot) → Sums tok shallow s t e → s.level ≡ 1 → t.level ≤ 200 → (steps depth : ℕ) (l : ℕ → Value) (d : Data) → 201 ≤ steps →
+main_shown : (x : Fixed) (c : Cell) (n : ℕ) (e : Expr) → IsSum n e → (steps depth : ℕ) (l : ℕ → Value) (d : Data) → depth + (n + 2) ≤ steps →
     slice_get ((x.program).funcs) ((x.program).entry) ≡ Some (returning c (value_of no_facts e)) →
     Ended (sum_run depth ((x.program).line) e []).path (sum_run depth ((x.program).line) e []).result (main plain x (state steps depth l d))
 unfolding main
-main_shown tok x c e s t sums low deep steps depth l d h g =
-    let n = enough steps h in
+main_shown x c n e is_sum steps depth l d h g =
+    let left = enough steps depth n h in
     let hand : Handler = calls plain x x.fuel in
     let r = sum_run depth ((x.program).line) e [] in
-    let m = value plain x hand (value_of no_facts e) (state n.0 depth l d) in
-    let le : t.level ≤ s.level + n.0 = omega (arith, low, deep, n.2) in
-    let shown = sums_shown tok shallow depth x hand l d sums n.0 depth [] (omega arith) le in
-    let ev : Evaluated depth [] shown.0 l d r m = shown.2 in
-    let fin : Ended (path_of plain m.log) r.result (finished x hand m) = finished_shown x hand depth (length r.path) shown.0 l d r.result m.log m.result ev.comes in
+    let m = value plain x hand (value_of no_facts e) (state (left.0 + depth) depth l d) in
+    let ev : Evaluated depth [] left.0 l d r m = sums_shown depth x hand l d is_sum left.0 depth [] (omega arith) left.2 in
+    let fin : Ended (path_of plain m.log) r.result (finished x hand m) = finished_shown x hand depth (length r.path) left.0 l d r.result m.log m.result ev.comes in
     let fin' : Ended r.path r.result (finished x hand m) = subst (λ u. Ended u r.result (finished x hand m)) (sym ev.path) fin in
     subst (λ o. Ended r.path r.result (main_in plain x hand o (state steps depth l d))) (sym g)
-    (subst (λ k. Ended r.path r.result (main_in plain x hand (Some (returning c (value_of no_facts e))) (state k depth l d))) (sym n.1)
-    (subst (λ w. Ended r.path r.result w) (sym (main_ran x hand c (value_of no_facts e) n.0 depth l d)) fin'))
+    (subst (λ k. Ended r.path r.result (main_in plain x hand (Some (returning c (value_of no_facts e))) (state k depth l d))) (sym left.1)
+    (subst (λ w. Ended r.path r.result w) (sym (main_ran x hand c (value_of no_facts e) (left.0 + depth) depth l d)) fin'))
 
-run_shown : (tok : ℕ → Option Kind) (b : Limits) (p : Program) (e : Expr) (s t : Spot) → Sums tok shallow s t e → s.level ≡ 1 → t.level ≤ 200 → 201 ≤ b.steps →
+run_shown : (b : Limits) (p : Program) (n : ℕ) (e : Expr) → IsSum n e → b.depth + (n + 2) ≤ b.steps →
     slice_get (p.funcs) (p.entry) ≡ Some (returning core.int_cell (value_of no_facts e)) → (h : Input) →
     (path_at p b h ≡ (sum_run b.depth (p.line) e []).path) × (end_at p b h ≡ end_of_summed (sum_run b.depth (p.line) e []).result) × (at_steps (end_of_summed (sum_run b.depth (p.line) e []).result) ≡ 0)
 unfolding path_at end_at run_of run
-run_shown tok b p e s t sums low deep steps g h =
-    let r = main_shown tok (fixed_of p b) core.int_cell e s t sums low deep b.steps b.depth (begin_of p b h).locals (begin_of p b h).data_now steps g in
+run_shown b p n e is_sum steps g h =
+    let r = main_shown (fixed_of p b) core.int_cell n e is_sum b.steps b.depth (begin_of p b h).locals (begin_of p b h).data_now steps g in
     (r.path, r.end, r.in_time)
 
--- the one function of an accepted program, and the run of every input
+-- the one function of a program, and the run of every input
 pub record Sum_program (b : Limits) (p : Program) (r : SumRun) : Type 0 where
   pub no_params : params_of p ≡ []
   pub path : (h : Input) → path_at p b h ≡ r.path
@@ -158,27 +121,22 @@ pub record Sum_program (b : Limits) (p : Program) (r : SumRun) : Type 0 where
   pub in_time : at_steps (end_of_summed r.result) ≡ 0
   pub bytes : All HasByte r.path
 
--- the expression that an accepted program's function returns is a sum
-pub sum_returned : (tokens : List Token) (tree : source_program.Program) → Accepts tokens tree → (n : ℕ) (f : source.Func) (e : Expr) →
-    slice_get (functions_of tree.items) n ≡ Some f → Returns f e → is_sum e ≡ true
-sum_returned tokens tree a n f e g ret =
-    let found = found_func (kind_at tokens) a.items refl n f g in
-    subst (λ u. is_sum u ≡ true) (only_sum f found.2 e found.3.word ret.0 found.3.body ret.1) (summing (kind_at tokens) shallow 0 (λ t. 0) found.3.sums).0
-
-pub sum_program : (tokens : List Token) (tree : source_program.Program) (b : Limits) (n : ℕ) (f : source.Func) (e : Expr) → Accepts tokens tree →
-    slice_get (functions_of tree.items) n ≡ Some f → Returns f e → 201 ≤ b.steps → Sum_program b (program_of tokens tree n) (sum_run b.depth (line_of tokens) e [])
-sum_program tokens tree b n f e a g ret steps =
+sum_program_at : (tokens : List Token) (tree : source_program.Program) (b : Limits) (n m : ℕ) (f : source.Func) (e : Expr) → IsOneSum tree.items →
+    slice_get (functions_of tree.items) n ≡ Some f → ReturnsSum f e → IsSum m e → b.depth + (m + 2) ≤ b.steps → Sum_program b (program_of tokens tree n) (sum_run b.depth (line_of tokens) e [])
+sum_program_at tokens tree b n m f e k g ret is_sum steps =
     let p = program_of tokens tree n in
-    let found = found_func (kind_at tokens) a.items refl n f g in
-    let same : found.2 ≡ e = only_sum f found.2 e found.3.word ret.0 found.3.body ret.1 in
-    let w : Sum_func (kind_at tokens) f e = subst (λ u. Sum_func (kind_at tokens) f u) same found.3 in
-    let funcs : p.funcs ≡ returning core.int_cell (value_of no_facts e) ∷ [] = ap (λ l. map (func_of no_facts) l) found.1 ∙ ap (λ x. x ∷ []) (func_is (kind_at tokens) f e w) in
+    let found = found_sum tree.items k n f g in
+    let funcs : p.funcs ≡ returning core.int_cell (value_of no_facts e) ∷ [] = ap (λ l. map (func_of no_facts) l) found.1 ∙ ap (λ x. x ∷ []) (func_is f e ret) in
     let here : slice_get (p.funcs) (p.entry) ≡ Some (returning core.int_cell (value_of no_facts e)) = ap (λ k. slice_get (p.funcs) k) found.0 ∙ ap (λ l. slice_get l 0) funcs in
-    let runs = run_shown (kind_at tokens) b p e w.from w.to w.sums w.level w.deep steps here in
+    let runs = run_shown b p m e is_sum steps here in
     record {
       no_params = ap (λ o. params_of_func o) here;
       path = λ h. (runs h).0;
       end = λ h. (runs h).1;
       in_time = (runs (record { cells = []; stream = [] })).2;
-      bytes = (summing (kind_at tokens) shallow b.depth (line_of tokens) w.sums).1 [] (λ k d h. absurd (omega (arith, h)));
+      bytes = sum_bytes b.depth (line_of tokens) is_sum [] (λ k d h. absurd (omega (arith, h)));
     }
+
+pub sum_program : (tokens : List Token) (tree : source_program.Program) (b : Limits) (n : ℕ) (f : source.Func) (e : Expr) → IsOneSum tree.items →
+    slice_get (functions_of tree.items) n ≡ Some f → ReturnsSum f e → b.depth + 20002 ≤ b.steps → Sum_program b (program_of tokens tree n) (sum_run b.depth (line_of tokens) e [])
+sum_program tokens tree b n f e k g ret steps = sum_program_at tokens tree b n deepest f e k g ret ret.sum (omega (arith, steps))

@@ -1,5 +1,5 @@
 -- What reading a source comes to.
-use Rattle.std.specs.Prelude.{ℕ, ◌≡◌, ◌<◌, ◌≤◌, List, [], ◌∷◌, Some, Ok, Err, slice_get}
+use Rattle.std.specs.Prelude.{ℕ, ◌≡◌, ◌<◌, ◌≤◌, List, [], ◌∷◌, Some, Ok, Err, slice_get, codes}
 use Rattle.cc_model.specs.declared.tokens.Token.{Token}
 use Rattle.cc_model.specs.declared.trees.Expr.{Expr}
 use Rattle.cc_model.specs.declared.trees.Func.{Func}
@@ -9,25 +9,45 @@ use Rattle.cc_model.specs.declared.trees.Item.{Item}
 use Rattle.cc_model.specs.declared.trees.Program.{Program}
 use Rattle.cc_model.specs.Lexical.{LexicalFault, tokens_of, line_at}
 use Rattle.cc_model.specs.Reads.{Accepts}
-use Rattle.cc_model.specs.Source.{functions_of, text_at, offset_of, what_of}
+use Rattle.cc_model.specs.OneSum.{IsOneSum}
+use Rattle.cc_model.specs.Source.{functions_of, text_at, place_line, offset_of, what_of}
+use Rattle.concolic_cli.specs.declared.refusal.Wrong.{Wrong}
+use Rattle.concolic_cli.specs.declared.refusal.Wrong.TheVariants.{BadByte, BadNumber, OpenComment, BadDirective, Syntax, TooDeep}
 use Rattle.concolic_cli.specs.declared.refusal.Refusal.{Refusal}
 use Rattle.concolic_cli.specs.declared.refusal.Refusal.TheVariants.{BadWord, Missing, TooLong, FileFailed, Source, NotYet, NoEntry, OutputFailed, NoMemory}
-use Rattle.concolic_cli.specs.Refusals.{what_text}
 
 -- a token is a part of the source
 pub record IsWithin (size : ℕ) (t : Token) : Type 0 where
   pub starts : t.start < t.«end»
   pub ends : t.«end» ≤ size
 
--- the bytes are these tokens, which read as this program
+-- the bytes are these tokens, which read as this program, and it is one of those that are run so far
 pub record ReadsAs (bytes : List ℕ) (tokens : List Token) (program : Program) : Type 0 where
   pub lexed : tokens_of bytes ≡ Ok tokens
   pub read : Accepts tokens program
+  pub kind : IsOneSum program.items
 
--- the bytes are no program, for this cause
+-- a byte, number, comment or directive of this line is bad
+abbrev pub IsLexical : List ℕ → ℕ → List ℕ → Type 0
+IsLexical bytes line what = (fault : LexicalFault) × (tokens_of bytes ≡ Err fault) × (line ≡ line_at bytes (offset_of fault)) × (what ≡ what_of fault)
+
+-- the tokens are no program, and the line is that of one of them or of the source's end
+abbrev pub IsUnread : List ℕ → ℕ → Type 0
+IsUnread bytes line = (tokens : List Token) × (place : ℕ) × (tokens_of bytes ≡ Ok tokens) × (line ≡ place_line bytes tokens place) × ((tree : Program) → Accepts tokens tree → ⊥)
+
+-- what is wrong at a line of the bytes
+abbrev pub IsWrong : List ℕ → ℕ → Wrong → Type 0
+IsWrong bytes line BadByte = IsLexical bytes line (codes "bad byte")
+IsWrong bytes line BadNumber = IsLexical bytes line (codes "bad number")
+IsWrong bytes line OpenComment = IsLexical bytes line (codes "open comment")
+IsWrong bytes line BadDirective = IsLexical bytes line (codes "bad directive")
+IsWrong bytes line Syntax = IsUnread bytes line
+IsWrong bytes line TooDeep = IsUnread bytes line
+
+-- the bytes are no program that is run so far, for this cause
 abbrev pub IsNoProgram : List ℕ → Refusal → Type 0
-IsNoProgram bytes (Source line wrong) = (fault : LexicalFault) × (tokens_of bytes ≡ Err fault) × (line ≡ line_at bytes (offset_of fault)) × (what_text wrong ≡ what_of fault)
-IsNoProgram bytes NotYet = (tokens : List Token) × (tokens_of bytes ≡ Ok tokens) × ((tree : Program) → Accepts tokens tree → ⊥)
+IsNoProgram bytes (Source line wrong) = IsWrong bytes line wrong
+IsNoProgram bytes NotYet = (tokens : List Token) × (tree : Program) × (tokens_of bytes ≡ Ok tokens) × Accepts tokens tree × (IsOneSum tree.items → ⊥)
 IsNoProgram bytes NoMemory = Unit {0}
 IsNoProgram bytes (BadWord n) = ⊥
 IsNoProgram bytes Missing = ⊥

@@ -1,5 +1,5 @@
 -- How a sum of numbers is evaluated.
-use Rattle.std.specs.Prelude.{ℕ, ◌+ℤ◌, ◌-ℤ◌, ℤ, Bool, true, false, ◌&&◌, [], ◌∷◌, ◌++◌, length, nat_lt, if◌then◌else◌}
+use Rattle.std.specs.Prelude.{ℕ, ◌-◌, ◌+ℤ◌, ◌-ℤ◌, ℤ, Bool, true, false, ◌&&◌, [], ◌∷◌, ◌++◌, length, nat_eq, nat_lt, if◌then◌else◌}
 use Rattle.cc_base.specs.declared.outcomes.Outcome.{Outcome}
 use Rattle.cc_base.specs.declared.outcomes.Outcome.TheVariants.{Plain}
 use Rattle.cc_base.specs.declared.ends.FaultKind.TheVariants.{Overflow}
@@ -23,6 +23,19 @@ is_sum_here _ = false
 -- numbers, sums and differences alone
 abbrev pub is_sum : Expr → Bool
 is_sum e = fold-Expr Bool is_sum_here e
+
+abbrev pub within_one : ℕ → (ℕ → Bool) → (ℕ → Bool) → Bool
+within_one n a b = if nat_eq n 0 then false else (a (n - 1) && b (n - 1))
+
+abbrev pub is_sum_within_here : Expr-F (ℕ → Bool) → ℕ → Bool
+is_sum_within_here (Sum f o a b) n = within_one n a b
+is_sum_within_here (Difference f o a b) n = within_one n a b
+is_sum_within_here (Number f t z) n = true
+is_sum_within_here _ n = false
+
+-- the same, where at most n operators stand one within the other
+abbrev pub is_sum_within : Expr → ℕ → Bool
+is_sum_within e = fold-Expr (ℕ → Bool) is_sum_within_here e
 
 -- the events so far, and what the evaluation comes to
 pub record SumRun : Type 0 where

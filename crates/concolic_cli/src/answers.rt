@@ -49,6 +49,8 @@ fn what(wrong: Wrong) -> &'static str
         Wrong::BadNumber => "bad number",
         Wrong::OpenComment => "open comment",
         Wrong::BadDirective => "bad directive",
+        Wrong::Syntax => "syntax",
+        Wrong::TooDeep => "too deep",
     }
 }
 

@@ -38,6 +38,7 @@ fn answer<F: Files, K: Sink, E: Sink>(
     out: &mut K,
     err: &mut E,
 ) -> Status
+    ensures bad_words { (result.0 ≡ 2) ↔ HasNoCommand (texts words.now) }
     ensures answered { Answered (record {
       words = texts words.now;
       seen = record {

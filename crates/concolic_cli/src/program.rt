@@ -1,20 +1,26 @@
 //! From the bytes of a source to the sum that its tested function returns.
 
-ghost use Rattle.std.specs.Prelude.{◌≡◌, ℕ, ◌^◌, ◌<◌, ◌≤◌, ◌+◌, All, IfOk, IfErr, IfSome, IfNone, length, List, take, count_by, IsTrue, ◌↔◌, ◌∷◌, [], MatchOption};
+ghost use Rattle.std.specs.Prelude.{◌≡◌, ℕ, ◌^◌, ◌<◌, ◌≤◌, ◌+◌, All, Ok, IfOk, IfErr, IfSome, IfNone, length, List, take, count_by, IsTrue, ◌↔◌, ◌∷◌, [], MatchOption};
 ghost use Rattle.c_lex.specs.Faults.{Fails};
 ghost use Rattle.cc_model.specs.Lexical.{tokens_of, line_at, is_newline};
 ghost use Rattle.cc_model.specs.Reads.{Accepts};
-ghost use Rattle.cc_model.specs.Source.{text_at, functions_of, HasNoEntry};
+ghost use Rattle.cc_model.specs.OneSum.{plain_int, ReturnsSum, IsOneSum};
+ghost use Rattle.cc_model.specs.Source.{text_at, place_line, functions_of, HasNoEntry};
 ghost use Rattle.concolic_cli.specs.Programs.{IsWithin, ReadsAs, IsNoProgram, Returns, IsNamed};
 ghost use Rattle.cc_model.specs.declared.trees.Expr.{Expr};
 ghost use Rattle.cc_model.specs.declared.trees.Func.{Func};
+ghost use Rattle.cc_model.specs.declared.trees.Program.{Program};
 
 use crate::refusal::{Refusal, Wrong};
+use crate::sums::is_sum_within;
 use c_lex::{LexFault, lex};
 use c_parse::{ParseFault, parse};
-use cc_model::trees::{Item, Part};
+use cc_model::trees::{Base, Item, Part, ResultType, TypeName};
 use cc_model::{Expr, Func, Program, Stmt, Token};
 use std::alloc::Global;
+
+/// How many operators of a sum may stand one within the other, which is more than an accepted one can have.
+const DEEPEST: u32 = 20_000;
 
 /// The bytes before an offset.
 fn before(source: &[u8], offset: u32) -> &[u8]
@@ -67,33 +73,27 @@ pub struct Source {
     pub program: Program,
 }
 
-/// Reads a source.
-pub fn read_program(alloc: Global, source: &[u8]) -> Result<Source, Refusal>
+/// The line of a token, or of the source's end where there is no such token.
+fn place_line(source: &[u8], tokens: &[Token], at: u32) -> u32
     requires { length source.now ≤ 1048576 }
-    ensures read { IfOk result (λ s. ReadsAs source.now s.tokens.items s.program) }
-    ensures within { IfOk result (λ s. All (λ t. IsWithin (length source.now) t) s.tokens.items) }
-    ensures refused { IfErr result (λ e. IsNoProgram source.now e) }
+    ensures { result ≡ place_line source.now tokens.now at }
 {
-    let tokens = match lex(alloc, source) {
-        Ok(tokens) => tokens,
-        Err(fault) => return Err(refusal_of(source, fault)),
-    };
-    match parse(alloc, &tokens) {
-        Ok(program) => Ok(Source { tokens, program }),
-        Err(ParseFault::NotYet) => Err(Refusal::NotYet),
-        Err(ParseFault::NoMemory) => Err(Refusal::NoMemory),
+    match tokens.get(at as usize) {
+        Some(token) => token.line,
+        None => line_at(source, source.len() as u32),
     }
 }
 
-/// The text of a token; none where there is no such token.
-#[tactic(auto, unfolding(cc_model::specs::Lexical::text_of))]
-fn text_at<'s>(source: &'s [u8], tokens: &[Token], at: u32) -> &'s [u8]
-    requires { All (λ t. IsWithin (length source.now) t) tokens.now }
-    ensures { result.now ≡ text_at source.now tokens.now at }
+/// What is wrong with tokens that the parser refuses.
+fn refusal_at(source: &[u8], tokens: &[Token], fault: ParseFault) -> Refusal
+    requires short { length source.now ≤ 1048576 }
+    requires lexed { tokens_of source.now ≡ Ok tokens.now }
+    ensures { ((tree : Program) → Accepts tokens.now tree → fault ≡ ParseFault.NoMemory) → IsNoProgram source.now result }
 {
-    match tokens.get(at as usize) {
-        Some(token) => &source[token.start as usize..token.end as usize],
-        None => &[],
+    match fault {
+        ParseFault::Syntax(at) => Refusal::Source(place_line(source, tokens, at), Wrong::Syntax),
+        ParseFault::TooDeep(at) => Refusal::Source(place_line(source, tokens, at), Wrong::TooDeep),
+        ParseFault::NoMemory => Refusal::NoMemory,
     }
 }
 
@@ -105,6 +105,91 @@ fn returned(function: &Func) -> Option<&Expr>
     match function.body.as_slice() {
         [Part::Stmt(Stmt::Return(_, Some(value)))] => Some(value),
         _ => None,
+    }
+}
+
+/// Whether a function gives an `int` and has no parameters.
+fn is_plain(function: &Func) -> bool
+    ensures { IsTrue result ↔ (((function.now).result ≡ plain_int) × ((function.now).params ≡ [])) }
+{
+    match function.result {
+        ResultType::Value(
+            TypeName {
+                base: Base::Int,
+                stars: 0,
+            },
+        ) => function.params.is_empty(),
+        _ => false,
+    }
+}
+
+/// The sum that an `int` function without parameters returns, where it does nothing else.
+fn returned_sum(function: &Func) -> Option<&Expr>
+    ensures some { IfSome result (λ e. ReturnsSum function.now e.now) }
+    ensures none { IfNone result ((e : Expr) → ReturnsSum function.now e → ⊥) }
+{
+    let Some(value) = returned(function) else {
+        return None;
+    };
+    if is_plain(function) && is_sum_within(value, DEEPEST) {
+        Some(value)
+    } else {
+        None
+    }
+}
+
+/// Whether the item is the one function of a program that is run so far.
+fn is_sum_item(item: &Item) -> bool
+    ensures { IsTrue result ↔ IsOneSum (item.now ∷ []) }
+{
+    match item {
+        Item::Func(function) => returned_sum(function).is_some(),
+        Item::Alias(_, _) | Item::Struct(_) | Item::Globals(_, _) | Item::Prototype(_, _, _) =>
+            false,
+    }
+}
+
+/// Whether the program is one of those that are run so far.
+fn is_one_sum(program: &Program) -> bool
+    ensures { IsTrue result ↔ IsOneSum (program.now).items }
+{
+    match program.items.as_slice() {
+        [] => true,
+        [item] => is_sum_item(item),
+        _ => false,
+    }
+}
+
+/// Reads a source, which has to be one of the programs that are run so far.
+pub fn read_program(alloc: Global, source: &[u8]) -> Result<Source, Refusal>
+    requires { length source.now ≤ 1048576 }
+    ensures read { IfOk result (λ s. ReadsAs source.now s.tokens.items s.program) }
+    ensures within { IfOk result (λ s. All (λ t. IsWithin (length source.now) t) s.tokens.items) }
+    ensures source_refused { IfErr result (λ e. IsNoProgram source.now e) }
+{
+    let tokens = match lex(alloc, source) {
+        Ok(tokens) => tokens,
+        Err(fault) => return Err(refusal_of(source, fault)),
+    };
+    let program = match parse(alloc, &tokens) {
+        Ok(program) => program,
+        Err(fault) => return Err(refusal_at(source, &tokens, fault)),
+    };
+    if !is_one_sum(&program) {
+        return Err(Refusal::NotYet);
+    }
+    Ok(Source { tokens, program })
+}
+
+/// The text of a token; none where there is no such token.
+#[tactic(auto, unfolding(cc_model::specs::Lexical::text_of))]
+fn text_at<'s>(source: &'s [u8], tokens: &[Token], at: u32) -> &'s [u8]
+    requires { All (λ t. IsWithin (length source.now) t) tokens.now }
+    ensures { result.now ≡ text_at source.now tokens.now at }
+{
+    match tokens.get(at as usize) {
+        Some(token) => &source[token.start as usize..token.end as usize],
+        None => &[],
     }
 }
 
@@ -157,12 +242,12 @@ fn function_named<'p>(
 /// The sum that the function with this name returns; None where no function has the name.
 pub fn tested_sum<'p>(source: &[u8], read: &'p Source, name: &str) -> Option<&'p Expr>
     requires within { All (λ t. IsWithin (length source.now) t) (read.now).tokens.items }
-    requires read { Accepts (read.now).tokens.items (read.now).program }
-    ensures some { IfSome result (λ e. (n : ℕ) × (f : Func) × IsNamed source.now (read.now).tokens.items (read.now).program.items n name.now f × Returns f e.now) }
+    requires kind { IsOneSum (read.now).program.items }
+    ensures some { IfSome result (λ e. (n : ℕ) × (f : Func) × IsNamed source.now (read.now).tokens.items (read.now).program.items n name.now f × ReturnsSum f e.now) }
     ensures none { IfNone result (HasNoEntry source.now (read.now).tokens.items (functions_of (read.now).program.items) name.now) }
 {
     let function = function_named(source, &read.tokens, read.program.items.as_slice(), name)?;
-    match returned(function) {
+    match returned_sum(function) {
         Some(sum) => Some(sum),
         None => unreachable!(),
     }

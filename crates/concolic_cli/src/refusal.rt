@@ -8,7 +8,7 @@ use cc_outside::Sink;
 use itoa::Buffer;
 use std::alloc::Global;
 
-/// What is wrong with the bytes of a source.
+/// What is wrong at a line of a source.
 #[derive(Clone, Copy, Debug, PartialEq, Eq)]
 pub enum Wrong {
     /// A byte that begins no token.
@@ -19,6 +19,10 @@ pub enum Wrong {
     OpenComment,
     /// A line of the preprocessor that is no `#include`.
     BadDirective,
+    /// The tokens are no program.
+    Syntax,
+    /// A token's level is above 200.
+    TooDeep,
 }
 
 /// Why a call is refused.
@@ -34,7 +38,7 @@ pub enum Refusal {
     FileFailed,
     /// The line of the source, from 1, and what is wrong there.
     Source(u32, Wrong),
-    /// The source is none of the programs that are accepted so far.
+    /// The program is none of those that are run so far.
     NotYet,
     /// No function with a body has the entry's name.
     NoEntry,

@@ -1,6 +1,6 @@
 //! A session: from the file of a source to the report on its tested function.
 
-ghost use Rattle.std.specs.Prelude.{◌≡◌, ℕ, ◌^◌, ◌<◌, ◌≤◌, IfOk, IfErr, OnOk, OnErr, length};
+ghost use Rattle.std.specs.Prelude.{◌≡◌, ℕ, ◌+◌, ◌^◌, ◌<◌, ◌≤◌, IfOk, IfErr, OnOk, OnErr, length};
 ghost use Rattle.cc_outside.specs.Told.{appended, WritesPart};
 ghost use Rattle.concolic_cli.specs.Lines.{text_of, ReportsOn};
 ghost use Rattle.concolic_cli.specs.Session.{ReadAs, FileCause, SourceCause, WriteCause, Ends};
@@ -21,7 +21,7 @@ const SOURCE_LIMIT: usize = 1_048_576;
 /// Reads the file of a source.
 fn read_source<F: Files>(alloc: Global, files: &mut F, file: &str) -> Result<Vec<u8>, Refusal>
     ensures read { IfOk result (λ v. ReadAs (F.held files.old) file.now v.items) }
-    ensures refused { IfErr result (λ e. FileCause (F.held files.old) (F.faults files.old) (F.faults files.new) file.now e) }
+    ensures file_refused { IfErr result (λ e. FileCause (F.held files.old) (F.faults files.old) (F.faults files.new) file.now e) }
     ensures held { F.held files.new ≡ F.held files.old }
 {
     match files.load(alloc, file, SOURCE_LIMIT) {
@@ -36,10 +36,10 @@ fn read_source<F: Files>(alloc: Global, files: &mut F, file: &str) -> Result<Vec
 /// The report on a source's tested function.
 fn prepare(alloc: Global, source: &[u8], entry: &str, words: &RunWords) -> Result<Report, Refusal>
     requires size { length source.now ≤ 1048576 }
-    requires steps { 201 ≤ (words.now).bounds.steps }
+    requires steps { (words.now).bounds.depth + 20002 ≤ (words.now).bounds.steps }
     requires runs { 1 ≤ (words.now).runs }
     ensures reports { IfOk result (λ r. ReportsOn source.now entry.now (words.now).bounds (words.now).runs r) }
-    ensures refused { IfErr result (λ e. SourceCause source.now entry.now e) }
+    ensures source_refused { IfErr result (λ e. SourceCause source.now entry.now e) }
 {
     let read = match read_program(alloc, source) {
         Ok(read) => read,
@@ -59,9 +59,9 @@ fn prepare(alloc: Global, source: &[u8], entry: &str, words: &RunWords) -> Resul
 
 /// Writes a line of the report.
 fn write_line<K: Sink>(out: &mut K, line: &[u8]) -> Result<(), Refusal>
+    ensures output_failed { IfErr result (λ e. WriteCause (K.faults out.old) (K.faults out.new) e) }
     ensures ok { OnOk result (K.written out.new ≡ appended (K.written out.old) line.now) }
     ensures part { OnErr result (WritesPart (K.written out.old) (K.written out.new) line.now) }
-    ensures cause { IfErr result (λ e. WriteCause (K.faults out.old) (K.faults out.new) e) }
     ensures never_falls { K.faults out.old ≤ K.faults out.new }
     ensures bounded { K.faults out.new < 2 ^ 64 }
 {
@@ -74,9 +74,9 @@ fn write_line<K: Sink>(out: &mut K, line: &[u8]) -> Result<(), Refusal>
 
 /// Writes the lines of a report, each by a write of its own.
 fn write_report<K: Sink>(out: &mut K, report: &Report) -> Result<(), Refusal>
+    ensures output_failed { IfErr result (λ e. WriteCause (K.faults out.old) (K.faults out.new) e) }
     ensures ok { OnOk result (K.written out.new ≡ appended (K.written out.old) (text_of report.now)) }
     ensures part { OnErr result (WritesPart (K.written out.old) (K.written out.new) (text_of report.now)) }
-    ensures cause { IfErr result (λ e. WriteCause (K.faults out.old) (K.faults out.new) e) }
 {
     write_line(out, &report.bounds)?;
     write_line(out, &report.test)?;
@@ -93,7 +93,7 @@ pub fn session<F: Files, K: Sink>(
     files: &mut F,
     out: &mut K,
 ) -> Result<Status, Refusal>
-    requires steps { 201 ≤ (words.now).bounds.steps }
+    requires steps { (words.now).bounds.depth + 20002 ≤ (words.now).bounds.steps }
     requires runs { 1 ≤ (words.now).runs }
     ensures ends { Ends (record {
       held = F.held files.old;

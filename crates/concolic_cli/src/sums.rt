@@ -1,10 +1,11 @@
 //! Runs of a function that returns a sum of numbers.
 
-ghost use Rattle.std.specs.Prelude.{◌≡◌, ◌^◌, ◌<◌, ◌≤◌, ◌+ℤ◌, ◌-ℤ◌, true, IfOk, length, []};
+ghost use Rattle.std.specs.Prelude.{◌≡◌, ◌^◌, ◌<◌, ◌≤◌, ◌+ℤ◌, ◌-ℤ◌, true, IfOk, IsTrue, length, []};
 ghost use Rattle.cc_base.specs.declared.ends.FaultKind.TheVariants.{Overflow};
 ghost use Rattle.cc_base.specs.declared.ends.End.TheVariants.{Fault};
+ghost use Rattle.cc_model.specs.OneSum.{IsSum};
 ghost use Rattle.cc_model.specs.Source.{line_of};
-ghost use Rattle.concolic_cli.specs.Sums.{is_sum, sum_run, fit, ran, SumRun, end_of_summed};
+ghost use Rattle.concolic_cli.specs.Sums.{is_sum, is_sum_within, sum_run, fit, ran, SumRun, end_of_summed};
 
 use cc_model::base::{End, FaultKind, Items, NoMemory, Outcome};
 use cc_model::{Expr, Token};
@@ -15,6 +16,29 @@ use std::alloc::Global;
 pub enum Summed {
     Value(i32),
     Over(End),
+}
+
+/// Whether the expression is a sum in which at most `room` operators stand one within the other.
+pub fn is_sum_within(sum: &Expr, room: u32) -> bool
+    ensures exact { result ≡ is_sum_within sum.now room }
+    ensures yes { IsTrue result → IsSum room sum.now }
+{
+    match sum {
+        Expr::Number(_, _, _) => true,
+        Expr::Sum(_, _, left, right) => {
+            if room == 0 {
+                return false;
+            }
+            is_sum_within(left.get(), room - 1) && is_sum_within(right.get(), room - 1)
+        }
+        Expr::Difference(_, _, left, right) => {
+            if room == 0 {
+                return false;
+            }
+            is_sum_within(left.get(), room - 1) && is_sum_within(right.get(), room - 1)
+        }
+        _ => false,
+    }
 }
 
 /// The line of a token; 0 where there is none.

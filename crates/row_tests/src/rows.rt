@@ -146,6 +146,34 @@ fn reports(rt: HostRuntime) -> Result<(), Fail> {
             "test ..- overflow@4 ~\n",
             1,
         ),
+        (
+            "int f(void) { return (1 + 2) - (3 - 4); }",
+            "run t.c f 10 -dfs 9",
+            DEPTH_9,
+            "test ... return ~\n",
+            0,
+        ),
+        (
+            "int f(void) { return (7); }",
+            "run t.c f 10 -dfs 1",
+            DEPTH_1,
+            "test ~ return ~\n",
+            0,
+        ),
+        (
+            "int f(void) {\n return 0 - 1\n  - (2147483647\n  + 1); }",
+            "run t.c f 10 -dfs 9",
+            DEPTH_9,
+            "test .+ overflow@4 ~\n",
+            1,
+        ),
+        (
+            "int f(void) { return 1 + (2 + (3 + 4)); }",
+            "run t.c f 10 -dfs 2",
+            DEPTH_2,
+            "test .. cut ~\n",
+            0,
+        ),
     ];
     for (source, words, first, test, status) in rows {
         check(
@@ -178,9 +206,27 @@ fn refusals(rt: HostRuntime) -> Result<(), Fail> {
             3,
         ),
         refused(
-            "int f(int x) { return 0; }",
+            "int f(void) { return 0;",
             "run t.c f 10 -dfs 1",
-            "source not yet\n",
+            "source 1: syntax\n",
+            3,
+        ),
+        refused(
+            "int f(void) {\n return 1 +; }",
+            "run t.c f 10 -dfs 1",
+            "source 2: syntax\n",
+            3,
+        ),
+        refused(
+            "int f(void) { return 0; }\n}\n",
+            "run t.c f 10 -dfs 1",
+            "source 2: syntax\n",
+            3,
+        ),
+        refused(
+            "int f(void) {\n return 0;\n",
+            "run t.c g 10 -dfs 1",
+            "source 3: syntax\n",
             3,
         ),
         refused(
@@ -208,6 +254,63 @@ fn refusals(rt: HostRuntime) -> Result<(), Fail> {
             3,
         ),
         refused("", "run u.c f 10 -dfs 1", "file u.c: missing\n", 4),
+        refused(
+            "int f(int x) { return x; }",
+            "run t.c f 10 -dfs 1",
+            "source not yet\n",
+            3,
+        ),
+        refused(
+            "int f(int x) { return 0; }",
+            "run t.c f 10 -dfs 1",
+            "source not yet\n",
+            3,
+        ),
+        // What isn't run yet comes before a name that isn't there.
+        refused(
+            "int f(int x) { return 0; }",
+            "run t.c g 10 -dfs 1",
+            "source not yet\n",
+            3,
+        ),
+        refused("int f(void);", "run t.c f 10 -dfs 1", "source not yet\n", 3),
+        refused("int x;", "run t.c f 10 -dfs 1", "source not yet\n", 3),
+        refused(
+            "int f(void) { return 0; } int g(void) { return 1; }",
+            "run t.c f 10 -dfs 1",
+            "source not yet\n",
+            3,
+        ),
+        refused(
+            "int *f(void) { return 0; }",
+            "run t.c f 10 -dfs 1",
+            "source not yet\n",
+            3,
+        ),
+        refused(
+            "void f(void) { }",
+            "run t.c f 10 -dfs 1",
+            "source not yet\n",
+            3,
+        ),
+        refused(
+            "int f(void) { ; return 0; }",
+            "run t.c f 10 -dfs 1",
+            "source not yet\n",
+            3,
+        ),
+        refused(
+            "int f(void) { return 2 * 3; }",
+            "run t.c f 10 -dfs 1",
+            "source not yet\n",
+            3,
+        ),
+        refused(
+            "int f(void) { return -1; }",
+            "run t.c f 10 -dfs 1",
+            "source not yet\n",
+            3,
+        ),
     ];
     for row in &rows {
         check(&rt, row)?;
@@ -260,5 +363,35 @@ fn an_error_sink_changes_no_status(rt: HostRuntime) -> Result<(), Fail> {
     let status = run(alloc, &mut files, "run t.c f 10 -dfs 1", &mut out, &mut err)?;
     assert_eq!(rt; status, 4);
     assert_eq!(rt; err.bytes(), b"file".as_slice());
+    Ok(())
+}
+
+/// `int f(void) {`, a newline, `return ((..1..)); }` with so many pairs of parentheses.
+fn nested(alloc: Global, pairs: usize) -> Result<Vec<u8>, Fail> {
+    let mut source = Vec::from_slice(alloc, b"int f(void) {\nreturn ")?;
+    for _ in 0..pairs {
+        source.push(b'(')?;
+    }
+    source.push(b'1')?;
+    for _ in 0..pairs {
+        source.push(b')')?;
+    }
+    source.extend_from_slice(b"; }")?;
+    Ok(source)
+}
+
+#[test]
+fn a_level_has_a_bound(rt: HostRuntime) -> Result<(), Fail> {
+    let alloc = rt.alloc();
+    let mut files = MemFiles::new(alloc);
+    files.put("t.c", &nested(alloc, 199)?)?;
+    files.put("u.c", &nested(alloc, 200)?)?;
+    let mut out = MemSink::new(alloc);
+    let mut err = MemSink::new(alloc);
+    let deep = run(alloc, &mut files, "run t.c f 10 -dfs 1", &mut out, &mut err)?;
+    assert_eq!(rt; deep, 0);
+    let deeper = run(alloc, &mut files, "run u.c f 10 -dfs 1", &mut out, &mut err)?;
+    assert_eq!(rt; deeper, 3);
+    assert_eq!(rt; err.bytes(), b"source 2: too deep\n".as_slice());
     Ok(())
 }

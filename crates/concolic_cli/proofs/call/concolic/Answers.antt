@@ -10,7 +10,7 @@ pub returns-clause-quiet : goal.returns-clause-quiet
 returns-clause-quiet g c = promise.quiet _ _ (ending _ _ c.answer.ensures.answered)
 
 pub returns-clause-bad_words : goal.returns-clause-bad_words
-returns-clause-bad_words g c = promise.bad_words _ _ (ending _ _ c.answer.ensures.answered)
+returns-clause-bad_words g c = c.answer.ensures.bad_words
 
 pub returns-clause-bad_word : goal.returns-clause-bad_word
 returns-clause-bad_word g c = promise.bad_word _ _ (ending _ _ c.answer.ensures.answered)

@@ -1,8 +1,8 @@
--- Where the parser accepts no program of the tokens, the tokens are no program.
-use Rattle.std.proofs.Common.{Err, ap, subst, sym}
+-- Where the parser refuses, the tokens are no program.
+use Rattle.std.proofs.Common.{subst, sym, ◌∙◌}
 use Rattle.cc_model.specs.Reads.{Accepts}
 use Rattle.concolic_cli.proofs.program.read_program.Goals as goal
 
-pub returns-in-Err-NotYet-clause-refused : goal.returns-in-Err-NotYet-clause-refused
-returns-in-Err-NotYet-clause-refused c =
-    (c.in-Ok.tokens.items, c.in-Ok.ensures.exact, λ tree h. c.in-Err-NotYet.ensures.not_yet (ap Err c.in-Err-NotYet.field-0-is) tree (subst (λ u. Accepts u tree) (sym c.deref.ensures.value) h))
+pub returns-in-Err-parse-clause-source_refused : goal.returns-in-Err-parse-clause-source_refused
+returns-in-Err-parse-clause-source_refused c =
+    c.refusal_at.ensures (λ tree a. c.in-Err-parse.ensures.only tree (subst (λ u. Accepts u tree) (c.deref-in-Err-parse.ensures.value ∙ sym c.deref.ensures.value) a))

@@ -1,19 +1,17 @@
 -- What reading, running and reporting tell, together.
 use Rattle.cc_model.specs.Source.{no_entry}
-use Rattle.concolic_cli.proofs.SumPrograms.{sum_returned}
+use Rattle.concolic_cli.proofs.SumKinds.{sum_is}
 use Rattle.concolic_cli.proofs.OneListing.{is_run_of, run_facts, reports_on, no_program_cause}
 use Rattle.concolic_cli.proofs.session.prepare.Goals as goal
 
-pub returns-in-Err-clause-refused : goal.returns-in-Err-clause-refused
-returns-in-Err-clause-refused c = no_program_cause c.args.source.now c.args.entry.now c.in-Err.refusal c.in-Err.ensures.refused
+pub returns-in-Err-clause-source_refused : goal.returns-in-Err-clause-source_refused
+returns-in-Err-clause-source_refused c = no_program_cause c.args.source.now c.args.entry.now c.in-Err.refusal c.in-Err.ensures.source_refused
 
-pub returns-in_default-clause-refused : goal.returns-in_default-clause-refused
-returns-in_default-clause-refused c = no_entry c.in-Ok.read.tokens.items c.in-Ok.read.program c.in-Ok.ensures.read.lexed c.in-Ok.ensures.read.read c.in_default.ensures.none
+pub returns-in_default-clause-source_refused : goal.returns-in_default-clause-source_refused
+returns-in_default-clause-source_refused c = no_entry c.in-Ok.read.tokens.items c.in-Ok.read.program c.in-Ok.ensures.read.lexed c.in-Ok.ensures.read.read c.in-Ok.ensures.read.kind c.in_default.ensures.none
 
 pub run-requires : goal.run-requires
-run-requires c =
-    let s = c.in-Some.ensures.some in
-    sum_returned c.in-Ok.read.tokens.items c.in-Ok.read.program c.in-Ok.ensures.read.read s.0 s.1 c.in-Some.sum.now s.2.0 s.3
+run-requires c = sum_is c.in-Some.ensures.some.3.sum
 
 pub report_on-requires-clause-bytes : goal.report_on-requires-clause-bytes
 report_on-requires-clause-bytes c =
