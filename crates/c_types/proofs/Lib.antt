@@ -1,0 +1,4 @@
+pub mod ListLemmas
+pub mod ArgumentLemmas
+pub mod ProductLemmas
+pub mod FieldLemmas
