@@ -1,3 +1,5 @@
+pub mod Emitting
+pub mod Adding
 pub mod Falls
 pub mod Told
 pub mod Lowered
@@ -6,3 +8,5 @@ pub mod Whole
 pub mod Settled
 pub mod Lengths
 pub mod Programs
+pub mod Simples
+pub mod Loops

@@ -1,2 +1,9 @@
+pub mod Adding
+pub mod Emitted
+pub mod Flow
+pub mod Forms
 pub mod Lowering
+pub mod Seen
 pub mod Sizes
+pub mod Tables
+pub mod Variables
