@@ -28,6 +28,10 @@ answer s n = record { shape = s; notes = n }
 abbrev pub told : Judged → Answer
 told j = answer j.shape j.notes
 
+-- what is judged, with its notes behind earlier ones
+abbrev pub behind : List Note → Judged → Answer
+behind n j = answer j.shape (n ++ j.notes)
+
 -- the rule of an expression, behind the notes of its parts
 abbrev pub ending : ℕ → (well holds : Bool) → Shape → List Note → Answer
 ending t well holds s n = told (judge 0 t well holds s n)
