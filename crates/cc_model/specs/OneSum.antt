@@ -1,5 +1,5 @@
--- The programs that are run so far: an empty file, or one function without parameters that returns a sum of numbers. This
--- is this project's own, and stands only until every accepted program is run.
+-- The programs that are run so far: one function without parameters that returns a sum of numbers. This is this project's own,
+-- and stands only until every accepted program is run.
 use Rattle.std.specs.Prelude.{ℕ, suc, ◌≡◌, ℤ, List, [], ◌∷◌, Some}
 use Rattle.cc_model.specs.declared.trees.Expr.{Expr}
 use Rattle.cc_model.specs.declared.trees.Expr.TheVariants as tree
@@ -37,5 +37,4 @@ pub record ReturnsSum (f : Func) (e : Expr) : Type 0 where
 
 -- the items of a file that is run so far
 pub data IsOneSum : List Item → Type 0 where
-  nothing : IsOneSum []
   one : {f : Func} {e : Expr} → ReturnsSum f e → IsOneSum (item.Func f ∷ [])

@@ -1,16 +1,16 @@
 -- What a source is: a program with the tested function, or refused with a text.
-use Rattle.std.specs.Prelude.{ℕ, ◌≡◌, false, List, [], ◌∷◌, ◌++◌, length, map, Option, Some, None, Ok, Err, slice_get, codes}
+use Rattle.std.specs.Prelude.{ℕ, ◌≡◌, true, false, List, [], ◌++◌, length, Option, Some, None, Ok, Err, slice_get, codes}
 use Rattle.std.specs.Fmt.{decimal}
 use Rattle.cc_model.specs.declared.tokens.Token.{Token}
-use Rattle.cc_model.specs.declared.trees.Func as source
-use Rattle.cc_model.specs.declared.trees.Item.{Item}
-use Rattle.cc_model.specs.declared.trees.Item.TheVariants as item
 use Rattle.cc_model.specs.declared.trees.Program as source_program
-use Rattle.cc_model.specs.Core.{Program, Layout, int_cell}
+use Rattle.cc_model.specs.declared.checked.Checked.{Checked}
+use Rattle.cc_model.specs.Core.{Program}
 use Rattle.cc_model.specs.Lexical.{LexicalFault, bad_byte, bad_number, open_comment, bad_directive, tokens_of, line_at, text_of}
 use Rattle.cc_model.specs.Reads.{Accepts}
+use Rattle.cc_model.specs.Typing.{Wrong, unknown, twice, mismatch, too_large}
+use Rattle.cc_model.specs.Faults.{Found, WellTyped, IsFirst, has_entry}
+use Rattle.cc_model.specs.CheckedProgram.{IsChecked, core_of}
 use Rattle.cc_model.specs.OneSum.{IsOneSum}
-use Rattle.cc_model.specs.Resolve.{Facts, func_of}
 
 -- ---- names and lines
 
@@ -38,45 +38,17 @@ text_or_none bytes None = []
 abbrev pub text_at : List ℕ → List Token → ℕ → List ℕ
 text_at bytes tokens at = text_or_none bytes (slice_get tokens at)
 
--- the functions with bodies, in order
-abbrev pub functions_of : List Item → List source.Func
-functions_of [] = []
-functions_of (item.Alias tag name ∷ l) = functions_of l
-functions_of (item.Struct s ∷ l) = functions_of l
-functions_of (item.Globals base parts ∷ l) = functions_of l
-functions_of (item.Func f ∷ l) = f ∷ functions_of l
-functions_of (item.Prototype r name params ∷ l) = functions_of l
-
 -- ---- the program
 
--- No program that is run so far names a variable, a field or a type, so nothing is told of them.
-abbrev pub nothing : Layout
-nothing = record { type = 0; cells = [] }
-
-abbrev pub no_facts : Facts
-no_facts = record { names = λ t. None; global_cells = λ n. 0; made = λ t. nothing; declared = λ t. nothing; lengths = λ t. 0; widths = λ t. 0; is_null = λ t. false; results = λ t. int_cell }
-
--- the tree with its names and lines resolved, to test its function n
-abbrev pub program_of : List Token → source_program.Program → ℕ → Program
-program_of tokens tree n = record {
-  funcs = map (func_of no_facts) (functions_of tree.items);
-  line = line_of tokens;
-  layouts = λ t. [];
-  globals = [];
-  entry = n;
-}
-
--- the bytes are the source of the program, whose tested function has this name
+-- the bytes are the source of the program, whose tested function has this name: they are tokens, which read as a program that is
+-- well typed and has such a function, and its names, types and sites are resolved
 pub record IsProgram (bytes entry : List ℕ) (p : Program) : Type 0 where
   pub tokens : List Token
-  pub tree : source_program.Program
-  pub func : source.Func
+  pub checked : Checked
   pub lexed : tokens_of bytes ≡ Ok tokens
-  pub read : Accepts tokens tree
-  pub kind : IsOneSum tree.items
-  pub found : slice_get (functions_of tree.items) p.entry ≡ Some func
-  pub named : text_at bytes tokens func.name ≡ entry
-  pub core : p ≡ program_of tokens tree p.entry
+  pub read : Accepts tokens checked.program
+  pub right : IsChecked (text_at bytes tokens) tokens entry checked
+  pub core : p ≡ core_of checked
 
 -- ---- refusals
 
@@ -96,17 +68,20 @@ what_of (bad_directive at) = codes "bad directive"
 abbrev pub source_text : ℕ → List ℕ → List ℕ
 source_text line what = codes "source " ++ decimal line ++ codes ": " ++ what
 
+-- what is wrong with a name, a declaration, a type or a size
+abbrev pub wrong_text : Wrong → List ℕ
+wrong_text unknown = codes "unknown name"
+wrong_text twice = codes "declared twice"
+wrong_text mismatch = codes "type"
+wrong_text too_large = codes "too large"
+
+-- the text of an accepted source that isn't run so far
 abbrev pub not_yet_text : List ℕ
-not_yet_text = codes "source not yet"
+not_yet_text = codes "run not yet"
 
 -- no entry NAME
 abbrev pub no_entry_text : List ℕ → List ℕ
 no_entry_text name = codes "no entry " ++ name
-
--- no function with a body has the name
-abbrev pub HasNoEntry : List ℕ → List Token → List source.Func → List ℕ → Type 0
-HasNoEntry bytes tokens [] entry = Unit {0}
-HasNoEntry bytes tokens (f ∷ l) entry = (text_at bytes tokens f.name ≡ entry → ⊥) × HasNoEntry bytes tokens l entry
 
 -- the bytes are refused with this text, for a tested function of this name: the first that applies in this order
 pub data Refuses (bytes entry : List ℕ) : List ℕ → Type 0 where
@@ -118,9 +93,13 @@ pub data Refuses (bytes entry : List ℕ) : List ℕ → Type 0 where
       Refuses bytes entry (source_text (place_line bytes tokens place) (codes "syntax"))
   too_deep : (tokens : List Token) → (place : ℕ) → tokens_of bytes ≡ Ok tokens → ((tree : source_program.Program) → Accepts tokens tree → ⊥) →
       Refuses bytes entry (source_text (place_line bytes tokens place) (codes "too deep"))
-  -- the program is none of those that are run so far
+  -- a name, a declaration, a type or a size is wrong: the first fault is said
+  fault : (tokens : List Token) → (tree : source_program.Program) → (f : Found) → tokens_of bytes ≡ Ok tokens → Accepts tokens tree →
+      IsFirst (text_at bytes tokens) tree.items f → Refuses bytes entry (source_text (place_line bytes tokens f.token) (wrong_text f.what))
+  -- nothing is wrong, and no function with a body has the name
+  no_entry : (tokens : List Token) → (tree : source_program.Program) → tokens_of bytes ≡ Ok tokens → Accepts tokens tree →
+      WellTyped (text_at bytes tokens) tree.items → has_entry (text_at bytes tokens) tree.items entry ≡ false → Refuses bytes entry (no_entry_text entry)
+  -- the program is accepted, and is none of those that are run so far
   not_yet : (tokens : List Token) → (tree : source_program.Program) → tokens_of bytes ≡ Ok tokens → Accepts tokens tree →
+      WellTyped (text_at bytes tokens) tree.items → has_entry (text_at bytes tokens) tree.items entry ≡ true →
       (IsOneSum tree.items → ⊥) → Refuses bytes entry not_yet_text
-  -- no function has the name
-  no_entry : (tokens : List Token) → (tree : source_program.Program) → tokens_of bytes ≡ Ok tokens → Accepts tokens tree → IsOneSum tree.items →
-      HasNoEntry bytes tokens (functions_of tree.items) entry → Refuses bytes entry (no_entry_text entry)
