@@ -1,8 +1,7 @@
 //! What is said of declared names.
 
-ghost use Rattle.std.specs.Prelude.{◌≡◌, ◌++◌, ◌||◌, ◌∷◌, [], None, map, nat_abs, OnOk, IfOk};
+ghost use Rattle.std.specs.Prelude.{◌≡◌, ◌++◌, ◌||◌, ◌∷◌, [], None, OnOk};
 ghost use Rattle.cc_model.specs.Source.{text_at};
-ghost use Rattle.cc_model.specs.declared.trees.Length.{Length as ArrayLength};
 ghost use Rattle.cc_model.specs.Scopes as scopes;
 ghost use Rattle.cc_model.specs.Typing as typing;
 ghost use Rattle.cc_model.specs.Faults as faults;
@@ -88,30 +87,7 @@ fn in_scope(name: &[u8], around: &[Items<Variable>]) -> bool
     }
 }
 
-/// The lengths of an array, as numbers.
-fn lengths_of(alloc: Global, lengths: &[Length]) -> Result<Items<u32>, NoMemory>
-    ensures { IfOk result (λ l. l ≡ map (λ (n : ArrayLength). nat_abs n.value) lengths.now) }
-{
-    let mut numbers = Items::new(alloc);
-    for length in lengths {
-        numbers.push(length.value.unsigned_abs())?;
-    }
-    Ok(numbers)
-}
-
 impl View<'_> {
-    /// The type of a declarator.
-    pub fn declared_type(
-        &self,
-        base: Base,
-        declarator: &Declarator,
-    ) -> Result<Option<CType>, NoMemory>
-        ensures { IfOk result (λ t. t ≡ scopes.declared_type (text_at self.now.source.now self.now.tokens.now) self.now.file.now.tags self.now.before.now base declarator.now) }
-    {
-        let lengths = lengths_of(self.alloc, declarator.lengths.as_slice())?;
-        Ok(self.object_type(base, declarator.stars, lengths))
-    }
-
     /// Whether the name is that of a typedef.
     pub fn is_alias(&self, t: u32) -> bool
         ensures { result ≡ scopes.is_alias self.now.before.now ((text_at self.now.source.now self.now.tokens.now) t) }

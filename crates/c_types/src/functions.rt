@@ -9,11 +9,11 @@ ghost use Rattle.c_types.specs.Views.{here_at};
 use crate::calls::note_rule;
 use crate::declarators::{note_declared, note_twice};
 use crate::made::note_unknown;
-use crate::types::{same_type, struct_in, void_type};
+use crate::types::{same_type, struct_in};
 use crate::view::View;
 use cc_model::Target;
 use cc_model::base::NoMemory;
-use cc_model::trees::{Param, ResultType, TypeName};
+use cc_model::trees::{Param, ResultType};
 use cc_model::typing::{CType, Note};
 use sqlite_items::Items;
 
@@ -52,23 +52,6 @@ pub fn same_if(one: &Option<CType>, other: &Option<CType>) -> bool
 }
 
 impl View<'_> {
-    /// The type of a result.
-    pub fn result_type(&self, gives: ResultType) -> Option<CType>
-        ensures { result ≡ scopes.result_type (text_at self.now.source.now self.now.tokens.now) self.now.file.now.tags self.now.before.now gives }
-    {
-        match gives {
-            ResultType::Void => Some(void_type(self.alloc)),
-            ResultType::Value(name) => self.type_named(name),
-        }
-    }
-
-    /// The type of a parameter.
-    pub fn param_type(&self, name: TypeName) -> Option<CType>
-        ensures { result ≡ scopes.param_type (text_at self.now.source.now self.now.tokens.now) self.now.file.now.tags self.now.before.now name }
-    {
-        self.object_type(name.base, name.stars, Items::new(self.alloc))
-    }
-
     /// A parameter of a function with a body, which is local `next`.
     pub fn param(
         &self,

@@ -1,19 +1,19 @@
 //! What a checker sees at a place, and what names and types mean there.
 
 ghost use Rattle.std.specs.Prelude.{◌≡◌, ◌<◌, ◌^◌, ◌++◌, [], length, OnOk, IfOk};
-ghost use Rattle.std.specs.Option.{option_copied, option_map};
-ghost use Rattle.cc_model.specs.declared.typing.BaseType.TheVariants.{Struct};
+ghost use Rattle.std.specs.Option.{option_copied};
 ghost use Rattle.cc_model.specs.Source.{text_at};
 ghost use Rattle.cc_model.specs.Scopes as scopes;
 ghost use Rattle.cc_model.specs.Typing as typing;
 ghost use Rattle.c_types.specs.Views.{seen};
 
-use crate::names::{alias_in, cut, function_in, has_name, tag_in, variable_in, variable_in_scopes};
+use crate::names::{function_in, has_name, variable_in, variable_in_scopes};
+use crate::type_names::{TypeNames, token_text};
 use cc_model::Token;
 use cc_model::base::NoMemory;
-use cc_model::trees::{Base, TypeName};
-use cc_model::typing::{BaseType, Before, CType, File, Variable};
-use sqlite_items::{Items, at};
+use cc_model::trees::{Base, Declarator, ResultType, TypeName};
+use cc_model::typing::{Before, CType, File, Variable};
+use sqlite_items::Items;
 use std::alloc::Global;
 
 /// A place of a file: its source and tokens, what the file declares, what stands before the place, and the variables of each scope around, the innermost scope last.
@@ -31,14 +31,10 @@ pub struct View<'a> {
 
 impl View<'_> {
     /// The text of a name.
-    #[tactic(auto, unfolding(cc_model::specs::Lexical::text_of))]
     pub fn text(&self, t: u32) -> &[u8]
         ensures { result.now ≡ text_at self.now.source.now self.now.tokens.now t }
     {
-        match at(self.tokens, t as usize) {
-            Some(token) => cut(self.source, token.start as usize, token.end as usize),
-            None => &[],
-        }
+        token_text(self.source, self.tokens, t)
     }
 
     /// The variable that a name means.
@@ -66,17 +62,17 @@ impl View<'_> {
         }
     }
 
-    /// What the name of a type means.
-    pub fn base_named(&self, base: Base) -> Option<BaseType>
-        ensures { result ≡ scopes.base_named (text_at self.now.source.now self.now.tokens.now) self.now.file.now.tags self.now.before.now base }
+    /// What the names of types hang on.
+    pub fn type_names(&self) -> TypeNames<'_>
+        ensures source { result.source.now ≡ self.now.source.now }
+        ensures tokens { result.tokens.now ≡ self.now.tokens.now }
+        ensures tags { result.tags.now ≡ self.now.file.now.tags }
     {
-        match base {
-            Base::Int => Some(BaseType::Int),
-            Base::Struct(tag) => struct_base(tag_in(self.text(tag), self.file.tags.as_slice())),
-            Base::Alias(name) => match alias_in(self.text(name), self.before.aliases.as_slice()) {
-                Some(alias) => struct_base(alias.number),
-                None => None,
-            },
+        TypeNames {
+            alloc: self.alloc,
+            source: self.source,
+            tokens: self.tokens,
+            tags: &self.file.tags,
         }
     }
 
@@ -84,54 +80,40 @@ impl View<'_> {
     pub fn type_named(&self, name: TypeName) -> Option<CType>
         ensures { result ≡ scopes.type_named (text_at self.now.source.now self.now.tokens.now) self.now.file.now.tags self.now.before.now name }
     {
-        match self.base_named(name.base) {
-            Some(base) => Some(CType {
-                base,
-                stars: name.stars,
-                lengths: Items::new(self.alloc),
-            }),
-            None => None,
-        }
-    }
-
-    /// Whether a type's struct is defined before.
-    fn is_complete(&self, stars: u32, base: BaseType) -> bool
-        ensures { result ≡ scopes.is_complete (text_at self.now.source.now self.now.tokens.now) self.now.file.now.tags self.now.before.now stars base }
-    {
-        if stars > 0 {
-            return true;
-        }
-        match base {
-            BaseType::Struct(number) => number < self.before.structs,
-            BaseType::Int | BaseType::Void => true,
-        }
+        self.type_names().type_named(self.before, name)
     }
 
     /// The type of an object: a struct has to be defined before.
     pub fn object_type(&self, base: Base, stars: u32, lengths: Items<u32>) -> Option<CType>
         ensures { result ≡ scopes.object_type (text_at self.now.source.now self.now.tokens.now) self.now.file.now.tags self.now.before.now base stars lengths }
     {
-        let base = match self.base_named(base) {
-            Some(base) => base,
-            None => return None,
-        };
-        if !self.is_complete(stars, base) {
-            return None;
-        }
-        Some(CType {
-            base,
-            stars,
-            lengths,
-        })
+        self.type_names()
+            .object_type(self.before, base, stars, lengths)
     }
-}
 
-/// The base of a struct's number.
-fn struct_base(number: Option<u32>) -> Option<BaseType>
-    ensures { result ≡ option_map Struct number }
-{
-    match number {
-        Some(number) => Some(BaseType::Struct(number)),
-        None => None,
+    /// The type of a declarator.
+    pub fn declared_type(
+        &self,
+        base: Base,
+        declarator: &Declarator,
+    ) -> Result<Option<CType>, NoMemory>
+        ensures { IfOk result (λ t. t ≡ scopes.declared_type (text_at self.now.source.now self.now.tokens.now) self.now.file.now.tags self.now.before.now base declarator.now) }
+    {
+        self.type_names()
+            .declared_type(self.before, base, declarator)
+    }
+
+    /// The type of a result.
+    pub fn result_type(&self, gives: ResultType) -> Option<CType>
+        ensures { result ≡ scopes.result_type (text_at self.now.source.now self.now.tokens.now) self.now.file.now.tags self.now.before.now gives }
+    {
+        self.type_names().result_type(self.before, gives)
+    }
+
+    /// The type of a parameter.
+    pub fn param_type(&self, name: TypeName) -> Option<CType>
+        ensures { result ≡ scopes.param_type (text_at self.now.source.now self.now.tokens.now) self.now.file.now.tags self.now.before.now name }
+    {
+        self.type_names().param_type(self.before, name)
     }
 }

@@ -1,0 +1,148 @@
+//! The checked program, from what is said of a well typed one.
+
+ghost use Rattle.std.specs.Prelude.{◌≡◌, ◌<◌, ◌^◌, length, map, IfOk};
+ghost use Rattle.cc_model.specs.Source.{text_at};
+ghost use Rattle.cc_model.specs.Scopes as scopes;
+ghost use Rattle.cc_model.specs.Faults as faults;
+ghost use Rattle.cc_model.specs.CheckedProgram as checked;
+ghost use Rattle.c_types.specs.Noted.{Tells};
+ghost use Rattle.c_types.specs.Resolving.{AreRead, IsTested};
+ghost use Rattle.c_types.specs.CheckedTypes.{AreCheckedTypes};
+
+use crate::before::{nothing_before, pass};
+use crate::declared::declared_types;
+use crate::locals::locals_of;
+use crate::noted::{Said, gather, names, type_at};
+use crate::numbering::{Numbering, number_types};
+use crate::sites::lines_of;
+use c_trees::expression_tokens;
+use cc_model::base::NoMemory;
+use cc_model::trees::{Item, Program};
+use cc_model::typing::{Before, CType, File, Note, Text};
+use cc_model::{Checked, Site, Token};
+use sqlite_items::Items;
+use std::alloc::Global;
+
+/// The types of the expressions at tokens.
+fn types_at(
+    alloc: Global,
+    notes: &[Note],
+    said: &[Said],
+    tokens: &[u32],
+) -> Result<Items<CType>, NoMemory>
+    requires { Tells 0 notes.now said.now }
+    ensures { IfOk result (λ l. l ≡ map (checked.type_at notes.now) tokens.now) }
+{
+    let mut types = Items::new(alloc);
+    for token in tokens {
+        types.push(type_at(alloc, notes, said, *token)?)?;
+    }
+    Ok(types)
+}
+
+/// The types of the expressions of items, in order of their numbers.
+fn expression_types(
+    alloc: Global,
+    items: &[Item],
+    notes: &[Note],
+    said: &[Said],
+) -> Result<Items<CType>, NoMemory>
+    requires { Tells 0 notes.now said.now }
+    ensures { IfOk result (λ l. l ≡ map (checked.type_at notes.now) (checked.expression_tokens items.now)) }
+{
+    let tokens = expression_tokens(alloc, items)?;
+    types_at(alloc, notes, said, tokens.as_slice())
+}
+
+/// What stands behind all items.
+fn behind(
+    alloc: Global,
+    source: &[u8],
+    tokens: &[Token],
+    tags: &Items<Option<Text>>,
+    items: &[Item],
+) -> Result<Before, NoMemory>
+    ensures { IfOk result (λ b. b ≡ scopes.after_items (text_at source.now tokens.now) tags.now scopes.nothing_before items.now) }
+{
+    let mut before = nothing_before(alloc);
+    for item in items {
+        pass(alloc, source, tokens, tags, &mut before, item)?;
+    }
+    Ok(before)
+}
+
+/// The types of a well typed program by their numbers.
+fn types_by_number(
+    alloc: Global,
+    source: &[u8],
+    tokens: &[Token],
+    items: &[Item],
+    file: &File,
+    notes: &[Note],
+    said: &[Said],
+) -> Result<Numbering, NoMemory>
+    requires told { Tells 0 notes.now said.now }
+    requires files { file.now ≡ scopes.file_of (text_at source.now tokens.now) items.now }
+    requires said { notes.now ≡ faults.notes_in (text_at source.now tokens.now) items.now }
+    requires well_typed { faults.WellTyped (text_at source.now tokens.now) items.now }
+    requires few_tags { length (file.now).tags < 2 ^ 32 }
+    requires few_functions { length (file.now).functions < 2 ^ 32 }
+    ensures { IfOk result (λ n. AreCheckedTypes (text_at source.now tokens.now) items.now (checked.expression_types (text_at source.now tokens.now) items.now) n) }
+{
+    let expressions = expression_types(alloc, items, notes, said)?;
+    let declarations = declared_types(alloc, notes)?;
+    let locals = locals_of(alloc, source, tokens, file, items)?;
+    let before = behind(alloc, source, tokens, &file.tags, items)?;
+    number_types(
+        alloc,
+        expressions.as_slice(),
+        declarations.as_slice(),
+        file,
+        before.globals.as_slice(),
+        locals.as_slice(),
+    )
+}
+
+/// The checked program of a well typed one, to test the function with this number.
+pub fn resolved(
+    alloc: Global,
+    source: &[u8],
+    tokens: &[Token],
+    program: Program,
+    file: &File,
+    notes: &[Note],
+    sites: Items<Site>,
+    entry: u32,
+) -> Result<Checked, NoMemory>
+    requires read { AreRead (text_at source.now tokens.now) tokens.now (program).items file.now notes.now sites }
+    requires well_typed { faults.WellTyped (text_at source.now tokens.now) (program).items }
+    requires few_tags { length (file.now).tags < 2 ^ 32 }
+    requires few_functions { length (file.now).functions < 2 ^ 32 }
+    ensures program { IfOk result (λ c. c.program ≡ program) }
+    ensures checked { IfOk result (λ c. (name : scopes.Text) → IsTested (text_at source.now tokens.now) (program).items name entry → checked.IsChecked (text_at source.now tokens.now) tokens.now name c) }
+{
+    let said = gather(alloc, notes)?;
+    let types = types_by_number(
+        alloc,
+        source,
+        tokens,
+        program.items.as_slice(),
+        file,
+        notes,
+        said.as_slice(),
+    )?;
+    let names = names(alloc, tokens.len(), said.as_slice())?;
+    let lines = lines_of(alloc, tokens)?;
+    Ok(Checked {
+        program,
+        tys: types.tys,
+        layouts: types.layouts,
+        expr_tys: types.expr_tys,
+        names,
+        lines,
+        sites,
+        funcs: types.funcs,
+        globals: types.globals,
+        entry,
+    })
+}
