@@ -10,3 +10,7 @@ pub mod Lengths
 pub mod Programs
 pub mod Simples
 pub mod Loops
+pub mod SitedTrees
+pub mod SitedBodies
+pub mod Wholes
+pub mod Tabled

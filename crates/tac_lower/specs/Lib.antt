@@ -7,3 +7,7 @@ pub mod Seen
 pub mod Sizes
 pub mod Tables
 pub mod Variables
+pub mod Finished
+pub mod Written
+pub mod Bodies
+pub mod Marking

@@ -1,6 +1,6 @@
 //! Single instructions, and numbers that stand in them.
 
-ghost use Rattle.std.specs.Prelude.{◌≡◌, ◌<◌, ◌+◌, ◌++◌, ◌∷◌, [], suc, length, OnOk};
+ghost use Rattle.std.specs.Prelude.{◌≡◌, ◌<◌, ◌+◌, ◌++◌, ◌∷◌, [], suc, length, IfOk, OnOk};
 
 use crate::instr::Instr;
 use cc_model::base::{Items, NoMemory};
@@ -43,4 +43,16 @@ pub fn here(code: &Items<Instr>) -> u32
     ensures { length code.now < 4294967296 → result ≡ length code.now }
 {
     short(code.len())
+}
+
+/// A length as a number of 32 bits.
+pub fn counted(count: usize) -> Result<u32, NoMemory>
+    ensures value { IfOk result (λ n. n ≡ count) }
+    ensures small { OnOk result (count < 4294967296) }
+{
+    if count <= u32::MAX as usize {
+        Ok(count as u32)
+    } else {
+        Err(NoMemory)
+    }
 }

@@ -55,15 +55,22 @@ pub struct Known<'a> {
     ghost right: { AreTables checked.now tables.now },
 }
 
+/// What the name at a token means.
+pub fn name(checked: &Checked, t: u32) -> Option<Target>
+    ensures { result ≡ name_at checked.now t }
+{
+    match checked.names.get(t as usize) {
+        Some(name) => *name,
+        None => None,
+    }
+}
+
 impl Known<'_> {
     /// What the name at a token means.
-    fn name(&self, t: u32) -> Option<Target>
+    pub fn name(&self, t: u32) -> Option<Target>
         ensures { result ≡ name_at self.now.checked.now t }
     {
-        match self.checked.names.get(t as usize) {
-            Some(name) => *name,
-            None => None,
-        }
+        name(self.checked, t)
     }
 
     /// The slot of the local that the name at a token means.

@@ -7,7 +7,7 @@ use crate::instr::Instr;
 use cc_model::SiteId;
 use cc_model::base::Items;
 
-/// A function's code: where it begins, and how many parameters, temporaries and slots it has. One without a body begins at the length of the code.
+/// A function's code: where it begins, and how many parameters, temporaries and slots it has. One without a body has the code of an empty one. The temporaries are all that the code of the program names.
 #[derive(Clone, Copy, Debug, PartialEq, Eq)]
 pub struct TacFunc {
     pub first: u32,
