@@ -1,0 +1,13 @@
+pub mod Marks
+pub mod Written
+pub mod Taken
+pub mod Forms
+pub mod Judged
+pub mod Passing
+pub mod ParamLaws
+pub mod NumberTexts
+pub mod BaseInputs
+pub mod Standings
+pub mod Answered
+pub mod ShortNumbers
+pub mod Streams

@@ -1,0 +1,6 @@
+pub mod Maps
+pub mod Reading
+pub mod CellFaults
+pub mod Params
+pub mod Commas
+pub mod Standing

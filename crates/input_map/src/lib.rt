@@ -1,0 +1,18 @@
+//! Inputs as they are written: map texts and the texts of tests, and the base input.
+#![tactic(auto)]
+
+mod base;
+mod checking;
+mod faults;
+mod maps;
+mod params;
+mod reading;
+mod writing;
+
+pub use base::base_input;
+pub use faults::MapFault;
+pub use maps::{an_input_has_a_map_text, read_map};
+pub use writing::{write_map, write_test};
+
+#[cfg(test)]
+mod tests;
