@@ -1,3 +1,4 @@
 pub mod Walks
 pub mod Writes
 pub mod Cells
+pub mod Finds

@@ -10,7 +10,7 @@ ghost use Rattle.checked_memory.specs.declared.values.Value.{Value};
 ghost use Rattle.checked_memory.specs.Contents.{IsTouched, address_of, cell_at, with_cell};
 
 use cc_base::NoMemory;
-use places::{Block, Link, Object, Place, block_at, place_of};
+use places::{Block, Link, Object, Place, block_at, cell_in, place_in, place_of};
 use std::alloc::Global;
 use std::marker::Model;
 pub use values::{Cell, Value};
@@ -104,6 +104,21 @@ impl Memory {
         ensures apart { Pairwise (λ a b. a ≢ b) (map address_of self.now.touched) }
     {
         self.touched
+    }
+
+    /// How many objects were made.
+    pub fn made(&self) -> usize
+        ensures { result ≡ length self.now.made }
+    {
+        self.objects.len() - self.touched as usize
+    }
+
+    /// The cell at a place; None exactly where neither a made object nor a touched block has a cell there.
+    pub fn find(&self, at: Value) -> Option<Cell>
+        ensures { result ≡ cell_at at self.now }
+    {
+        let place = place_in(&self.objects, self.latest, self.touched, at)?;
+        cell_in(self.objects[place.object].cells.as_slice(), place.cell)
     }
 
     /// The cell at a place, which has to be a cell of a made object or of a touched block.

@@ -1,6 +1,6 @@
 //! Where the cells of objects and blocks stand.
 
-ghost use Rattle.std.specs.Prelude.{◌≡◌, ◌<◌, length, MatchOption, IsSome};
+ghost use Rattle.std.specs.Prelude.{◌≡◌, ◌<◌, None, length, slice_get, MatchOption, IsSome};
 ghost use Rattle.checked_memory.specs.Contents.{IsTouched, cell_at};
 ghost use Rattle.checked_memory.specs.Entries.{entries, touched_of, made_of, contents, IsLinked, IsBlock, IsMade, IsPlace};
 
@@ -102,4 +102,41 @@ pub(crate) fn place_of(objects: &[Object], latest: Link, touched: u8, at: Value)
         },
         Value::Int(_) | Value::Null => unreachable!(),
     }
+}
+
+// The place of a cell, where the object with this number or the block at this address is there.
+pub(crate) fn place_in(objects: &[Object], latest: Link, touched: u8, at: Value) -> Option<Place>
+    requires linked { IsLinked (entries objects.now) latest }
+    requires counted { touched ≡ length (touched_of (entries objects.now)) }
+    ensures { MatchOption result (cell_at at (contents (entries objects.now)) ≡ None) (λ p. IsPlace at (entries objects.now) p.object p.cell) }
+{
+    match at {
+        Value::Made(number, offset) => {
+            if number as usize + touched as usize >= objects.len() {
+                return None;
+            }
+            Some(Place {
+                object: made_at(objects, latest, touched, number),
+                cell: offset as usize,
+            })
+        }
+        Value::Block(address, offset) => {
+            match block_at(objects, latest, touched, address) {
+                Some(found) => Some(Place {
+                    object: found.object,
+                    cell: offset as usize,
+                }),
+                None => None,
+            }
+        }
+        Value::Int(_) => None,
+        Value::Null => None,
+    }
+}
+
+// The cell at an index.
+pub(crate) fn cell_in(cells: &[Cell], index: usize) -> Option<Cell>
+    ensures { result ≡ slice_get cells.now index }
+{
+    cells.get(index).copied()
 }
