@@ -1,0 +1,15 @@
+pub mod FormedLaws
+pub mod NumberLaws
+pub mod EventLaws
+pub mod Appended
+pub mod ActLaws
+pub mod Acts
+pub mod BlockLaws
+pub mod MemoryLaws
+pub mod ObjectLaws
+pub mod PointerLaws
+pub mod RankLaws
+pub mod TouchLaws
+pub mod AccessLaws
+pub mod EnterLaws
+pub mod DecisionLaws
