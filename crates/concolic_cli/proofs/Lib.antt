@@ -1,10 +1,13 @@
 pub mod Numerals
 pub mod Forms
 mod SumKinds
+mod SumNotes
+mod SumFiles
+mod SumChecked
+mod SumReads
 mod SumRuns
 mod SumBytes
 mod SumPrograms
-mod Entries
 mod OneListing
 mod ReportText
 mod Written

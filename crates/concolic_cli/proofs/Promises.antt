@@ -1,32 +1,29 @@
 -- Each promise of a call, from what it comes to.
-use Rattle.std.proofs.Common.{◌≡◌, ℕ, zero, suc, ◌<◌, ◌≤◌, ◌⊎◌, inl, inr, ⊎_elim, List, [], ◌∷◌, ◌++◌, length, Option, Some, None, Ok, sym, ap, subst, ◌∙◌, arith, codes, slice_get, Bool}
+use Rattle.std.proofs.Common.{true, ◌≡◌, ℕ, zero, suc, ◌<◌, ◌≤◌, ◌⊎◌, inl, inr, ⊎_elim, List, [], ◌∷◌, ◌++◌, length, Option, Some, None, Ok, sym, ap, subst, ◌∙◌, arith, codes, slice_get, Bool}
 use Rattle.cc_model.specs.declared.commands.Command.TheVariants.{Run}
 use Rattle.cc_model.specs.declared.commands.RunWords.{RunWords}
 use Rattle.cc_model.specs.declared.tokens.Token.{Token}
-use Rattle.cc_model.specs.declared.trees.Func as source
 use Rattle.cc_model.specs.declared.trees.Program as source_program
+use Rattle.cc_base.specs.Limits.{Limits}
+use Rattle.cc_base.specs.Paths.{In}
 use Rattle.cc_model.specs.Core.{Program}
 use Rattle.cc_model.specs.Lexical.{tokens_of}
 use Rattle.cc_model.specs.OneSum.{IsOneSum}
 use Rattle.cc_model.specs.Reads.{Reads, Accepts, shallow}
 use Rattle.cc_model.specs.Report.{newline}
-use Rattle.cc_model.specs.Source.{IsProgram, Refuses, lexical, syntax, too_deep, not_yet, no_entry, HasNoEntry, functions_of, text_at}
+use Rattle.cc_model.specs.Faults.{WellTyped, has_entry}
+use Rattle.cc_model.specs.Listing.{Listing}
+use Rattle.cc_model.specs.Source.{IsProgram, Refuses, lexical, syntax, too_deep, fault, not_yet, no_entry, text_at}
 use Rattle.cc_model.specs.Words.{Accepted, BadWord}
 use Rattle.cc_outside.specs.Faults.{Rose}
 use Rattle.cc_outside.specs.Held.{Held, file_of}
 use Rattle.concolic_cli.specs.Concolic.{Call, word_of, IsSource, IsSession, Headline, PartOfReport, nothing, part, SourceIsRefused, FileFault, FileIsRefused}
 use Rattle.concolic_cli.specs.Refusals.{bad_word_text, Says}
-use Rattle.concolic_cli.specs.Session.{ReadAs}
+use Rattle.concolic_cli.specs.Session.{ReadAs, Lists}
 use Rattle.concolic_cli.proofs.Forms.{accepted_once}
 use Rattle.concolic_cli.proofs.Calls.{Ending, at_words, at_report, at_source, at_file, at_output, at_memory}
 
 -- ---- a source is no program and a refusal at once
-
-no_entry_found : (bytes : List ℕ) (tokens : List Token) (name : List ℕ) (l : List source.Func) (n : ℕ) (f : source.Func) → HasNoEntry bytes tokens l name →
-    slice_get l n ≡ Some f → text_at bytes tokens f.name ≡ name → ⊥
-no_entry_found bytes tokens name [] n f h g e = cc g
-no_entry_found bytes tokens name (k ∷ l) zero f h g e = let same : k ≡ f = cc g in h.0 (ap (λ u. text_at bytes tokens u.name) same ∙ e)
-no_entry_found bytes tokens name (k ∷ l) (suc n) f h g e = no_entry_found bytes tokens name l n f h.1 g e
 
 -- a law of the grammar: tokens read as at most one program
 abbrev pub OneProgram : Type 0
@@ -34,23 +31,34 @@ OneProgram = (fits : ℕ → ℕ → Bool) (tokens : List Token) (p q : source_p
 
 -- the tokens of a program are a program
 read_unread : (bytes entry : List ℕ) (p : Program) → (i : IsProgram bytes entry p) → (tokens : List Token) → tokens_of bytes ≡ Ok tokens → ((tree : source_program.Program) → Accepts tokens tree → ⊥) → ⊥
-read_unread bytes entry p i tokens h none = let same : i.tokens ≡ tokens = cc (i.lexed, h) in none i.tree (subst (λ u. Accepts u i.tree) same i.read)
+read_unread bytes entry p i tokens h none = let same : i.tokens ≡ tokens = cc (i.lexed, h) in none (i.checked).program (subst (λ u. Accepts u (i.checked).program) same i.read)
 
 -- and one program alone
 read_once : OneProgram → (bytes entry : List ℕ) (p : Program) → (i : IsProgram bytes entry p) → (tokens : List Token) (tree : source_program.Program) → tokens_of bytes ≡ Ok tokens → Accepts tokens tree →
-    (i.tokens ≡ tokens) × (i.tree ≡ tree)
-read_once one bytes entry p i tokens tree h read = let same : i.tokens ≡ tokens = cc (i.lexed, h) in (same, one shallow tokens i.tree tree (subst (λ u. Accepts u i.tree) same i.read) read)
+    (i.tokens ≡ tokens) × ((i.checked).program ≡ tree)
+read_once one bytes entry p i tokens tree h read = let same : i.tokens ≡ tokens = cc (i.lexed, h) in (same, one shallow tokens (i.checked).program tree (subst (λ u. Accepts u (i.checked).program) same i.read) read)
 
-accepted_refused : OneProgram → (bytes entry : List ℕ) (p : Program) (text : List ℕ) → IsProgram bytes entry p → Refuses bytes entry text → ⊥
-accepted_refused one bytes entry p _ i (lexical fault h) = cc (i.lexed, h)
-accepted_refused one bytes entry p _ i (syntax tokens place h none) = read_unread bytes entry p i tokens h none
-accepted_refused one bytes entry p _ i (too_deep tokens place h none) = read_unread bytes entry p i tokens h none
-accepted_refused one bytes entry p _ i (not_yet tokens tree h read other) =
-    let same = read_once one bytes entry p i tokens tree h read in other (subst (λ u. IsOneSum u.items) same.1 i.kind)
-accepted_refused one bytes entry p _ i (no_entry tokens tree h read kind none) =
+-- the program has no fault, and its tested function has a body
+none_faulty : OneProgram → (bytes entry : List ℕ) (p : Program) → (i : IsProgram bytes entry p) → (tokens : List Token) (tree : source_program.Program) → tokens_of bytes ≡ Ok tokens → Accepts tokens tree →
+    WellTyped (text_at bytes tokens) tree.items × (has_entry (text_at bytes tokens) tree.items entry ≡ true)
+none_faulty one bytes entry p i tokens tree h read =
     let same = read_once one bytes entry p i tokens tree h read in
-    no_entry_found bytes tokens entry (functions_of tree.items) p.entry i.func none (subst (λ u. slice_get (functions_of u.items) p.entry ≡ Some i.func) same.1 i.found)
-    (subst (λ u. text_at bytes u i.func.name ≡ entry) same.0 i.named)
+    let P : List Token → source_program.Program → Type 0 = λ k u. WellTyped (text_at bytes k) u.items × (has_entry (text_at bytes k) u.items entry ≡ true) in
+    subst (λ k. P k tree) same.0 (subst (λ u. P i.tokens u) same.1 ((i.right).well_typed, (i.right).has_body))
+
+-- one that is run so far is refused in no way
+accepted_refused : OneProgram → (bytes entry : List ℕ) (p : Program) (text : List ℕ) → (i : IsProgram bytes entry p) → IsOneSum ((i.checked).program).items → Refuses bytes entry text → ⊥
+accepted_refused one bytes entry p _ i kind (lexical f h) = cc (i.lexed, h)
+accepted_refused one bytes entry p _ i kind (syntax tokens place h none) = read_unread bytes entry p i tokens h none
+accepted_refused one bytes entry p _ i kind (too_deep tokens place h none) = read_unread bytes entry p i tokens h none
+accepted_refused one bytes entry p _ i kind (fault tokens tree f h read first) = subst (λ l. In f l) (none_faulty one bytes entry p i tokens tree h read).0 first.0
+accepted_refused one bytes entry p _ i kind (no_entry tokens tree h read well none) = let body = (none_faulty one bytes entry p i tokens tree h read).1 in cc (body, none)
+accepted_refused one bytes entry p _ i kind (not_yet tokens tree h read well body other) = other (subst (λ u. IsOneSum u.items) (read_once one bytes entry p i tokens tree h read).1 kind)
+
+-- a source whose listing was written is refused in no way
+listed_refused : OneProgram → (bytes entry bytes' entry' : List ℕ) (b : Limits) (runs : ℕ) (p : Program) (l : Listing) (text : List ℕ) → bytes ≡ bytes' → entry ≡ entry' → Lists bytes entry b runs p l → Refuses bytes' entry' text → ⊥
+listed_refused one bytes entry bytes' entry' b runs p l text same named lists r =
+    accepted_refused one bytes entry p text lists.program lists.kind (subst (λ u. Refuses u entry text) (sym same) (subst (λ u. Refuses bytes' u text) (sym named) r))
 
 -- the words are those of one session
 one_run : (words : List (List ℕ)) (r s : RunWords) → Accepted words (Run r) → Accepted words (Run s) → r ≡ s
@@ -241,29 +249,29 @@ module _ (call : Call) (status : ℕ) (answered : Ending call status) where
     refused_of (at_words n b e s t) text r = absurd (b.refused (Run run) i.accepted)
     refused_of (at_report e l q) text r =
         let same = is_read l.run l.bytes l.session in
-        absurd (accepted_refused one bytes (word_of call.words run.entry) l.program text (subst (λ u. IsProgram u (word_of call.words run.entry) l.program) same.0 (subst (λ u. IsProgram l.bytes u l.program) same.1 l.lists.program)) r)
+        absurd (listed_refused one l.bytes (word_of call.words (l.run).entry) bytes (word_of call.words run.entry) (l.run).bounds (l.run).runs l.program l.listing text same.0 same.1 l.lists r)
     refused_of (at_source e r' q) text r = inl e
     refused_of (at_file e r' q) text r = inr (inr (e, file_failed r'.run r'.what r'.accepted r'.cause))
     refused_of (at_output e r' p t) text r =
         let same = is_read p.run p.bytes p.session in
-        absurd (accepted_refused one bytes (word_of call.words run.entry) p.program text (subst (λ u. IsProgram u (word_of call.words run.entry) p.program) same.0 (subst (λ u. IsProgram p.bytes u p.program) same.1 p.lists.program)) r)
+        absurd (listed_refused one p.bytes (word_of call.words (p.run).entry) bytes (word_of call.words run.entry) (p.run).bounds (p.run).runs p.program p.listing text same.0 same.1 p.lists r)
     refused_of (at_memory s b e p t) text r = inr (inl e)
 
     pub refused_source : (text : List ℕ) → Refuses bytes (word_of call.words run.entry) text →
         (status ≡ 3) ⊎ ((status ≡ 7) ⊎ ((status ≡ 4) × Rose (call.seen).files_old (call.seen).files_new))
     refused_source = refused_of answered
 
-    complete_of : (e : Ending call status) (p : Program) → IsProgram bytes (word_of call.words run.entry) p → (Rose (call.seen).files_old (call.seen).files_new → ⊥) → (Rose (call.seen).faults_old (call.seen).faults_new → ⊥) →
+    complete_of : (e : Ending call status) (p : Program) → (j : IsProgram bytes (word_of call.words run.entry) p) → IsOneSum ((j.checked).program).items → (Rose (call.seen).files_old (call.seen).files_new → ⊥) → (Rose (call.seen).faults_old (call.seen).faults_new → ⊥) →
         (status ≡ 0) ⊎ ((status ≡ 1) ⊎ (status ≡ 7))
-    complete_of (at_words n b e s t) p j f o = absurd (b.refused (Run run) i.accepted)
-    complete_of (at_report e l q) p j f o = ⊎_elim (λ z. inl z) (λ z. inr (inl z)) e
-    complete_of (at_source e r q) p j f o =
+    complete_of (at_words n b e s t) p j kind f o = absurd (b.refused (Run run) i.accepted)
+    complete_of (at_report e l q) p j kind f o = ⊎_elim (λ z. inl z) (λ z. inr (inl z)) e
+    complete_of (at_source e r q) p j kind f o =
         let same = is_read r.run r.bytes r.session in
-        absurd (accepted_refused one bytes (word_of call.words run.entry) p r.text j (subst (λ u. Refuses u (word_of call.words run.entry) r.text) same.0 (subst (λ u. Refuses r.bytes u r.text) same.1 r.refused)))
-    complete_of (at_file e r q) p j f o = absurd (f (file_failed r.run r.what r.accepted r.cause))
-    complete_of (at_output e r q t) p j f o = absurd (o r)
-    complete_of (at_memory s b e q t) p j f o = inr (inr e)
+        absurd (accepted_refused one bytes (word_of call.words run.entry) p r.text j kind (subst (λ u. Refuses u (word_of call.words run.entry) r.text) same.0 (subst (λ u. Refuses r.bytes u r.text) same.1 r.refused)))
+    complete_of (at_file e r q) p j kind f o = absurd (f (file_failed r.run r.what r.accepted r.cause))
+    complete_of (at_output e r q t) p j kind f o = absurd (o r)
+    complete_of (at_memory s b e q t) p j kind f o = inr (inr e)
 
-    pub complete : (p : Program) → IsProgram bytes (word_of call.words run.entry) p → (Rose (call.seen).files_old (call.seen).files_new → ⊥) → (Rose (call.seen).faults_old (call.seen).faults_new → ⊥) →
+    pub complete : (p : Program) → (j : IsProgram bytes (word_of call.words run.entry) p) → IsOneSum ((j.checked).program).items → (Rose (call.seen).files_old (call.seen).files_new → ⊥) → (Rose (call.seen).faults_old (call.seen).faults_new → ⊥) →
         (status ≡ 0) ⊎ ((status ≡ 1) ⊎ (status ≡ 7))
     complete = complete_of answered

@@ -13,7 +13,7 @@ use Rattle.cc_model.specs.declared.trees.Item.{Item}
 use Rattle.cc_model.specs.declared.trees.Item.TheVariants as item
 use Rattle.cc_model.specs.declared.trees.Part.TheVariants as part
 use Rattle.cc_model.specs.declared.trees.Stmt.TheVariants as stmt
-use Rattle.concolic_cli.specs.Programs.{Returns}
+use Rattle.concolic_cli.specs.Programs.{Returns, IsSumOf}
 use Rattle.concolic_cli.specs.Sums.{is_sum_here, is_sum, within_one, is_sum_within_here, is_sum_within}
 
 one_less : (n : ℕ) → suc n - 1 ≡ n
@@ -67,15 +67,28 @@ returns_none f e r none = none e (r.word, r.body)
 pub returns_other : (f : Func) (e u : Expr) → ReturnsSum f e → Returns f u → is_sum_within u deepest ≡ true
 returns_other f e u r w = subst (λ v. is_sum_within v deepest ≡ true) (only_sum f e u r.word w.0 r.body w.1) (within_is r.sum)
 
-pub empty_items : (items : List Item) → length items < 1 → IsOneSum items
-empty_items [] h = kind.nothing
-empty_items (i ∷ l) h = absurd (omega (arith, h))
-
 one_func : (l : List Item) (f : Func) → IsOneSum l → l ≡ item.Func f ∷ [] → (e : Expr) × ReturnsSum f e
-one_func _ f kind.nothing h = absurd (cc h)
 one_func _ f (kind.one {f = g} {e = e} r) h = let same : g ≡ f = cc h in (e, subst (λ u. ReturnsSum u e) same r)
 
-pub func_item : {A : Type 0} (now : A → Expr) (i : Item) (f : Func) (o : Option A) → i ≡ item.Func f → IfSome o (λ e. ReturnsSum f (now e)) → IfNone o ((e : Expr) → ReturnsSum f e → ⊥) →
-    IsTrue (is_some o) ↔ IsOneSum (i ∷ [])
-func_item now i f (Some e) is gives none = subst (λ u. IsTrue (is_some (Some e)) ↔ IsOneSum (u ∷ [])) (sym is) (λ _. kind.one gives, λ _. refl)
-func_item {A} now i f None is gives none = (λ h. absurd (cc h), λ k. let r = one_func (i ∷ []) f k (ap (λ u. u ∷ []) is) in absurd (none r.0 r.1))
+-- the sum that an item's function returns is that of the file that the item is
+pub item_some : {A : Type 0} (now : A → Expr) (i : Item) (f : Func) (o : Option A) → i ≡ item.Func f → IfSome o (λ e. ReturnsSum f (now e)) → IfSome o (λ e. IsSumOf (i ∷ []) (now e))
+item_some now i f (Some e) is r = (f, ap (λ u. u ∷ []) is, r)
+item_some now i f None is r = r
+
+pub item_none : {A : Type 0} (i : Item) (f : Func) (o : Option A) → i ≡ item.Func f → IfNone o ((e : Expr) → ReturnsSum f e → ⊥) → IfNone o (IsOneSum (i ∷ []) → ⊥)
+item_none i f (Some e) is h = h
+item_none i f None is h = λ k. let r = one_func (i ∷ []) f k (ap (λ u. u ∷ []) is) in h r.0 r.1
+
+only_func : (l : List Item) → IsOneSum l → (f : Func) × (l ≡ item.Func f ∷ [])
+only_func _ (kind.one {f = f} r) = (f, refl)
+
+-- an item that is no function, and other numbers of items, are no sum
+pub other_item : (i : Item) → ((f : Func) → i ≡ item.Func f → ⊥) → IsOneSum (i ∷ []) → ⊥
+other_item i none k = let r = only_func (i ∷ []) k in none r.0 (cc r.1)
+
+pub other_length : (l : List Item) → (length l ≡ 1 → ⊥) → IsOneSum l → ⊥
+other_length l none k = let r = only_func l k in none (ap (λ u. length u) r.1)
+
+-- the one function's sum makes the items one sum
+pub sum_kind : (l : List Item) (e : Expr) → IsSumOf l e → IsOneSum l
+sum_kind l e s = subst (λ u. IsOneSum u) (sym s.1) (kind.one s.2)

@@ -1,6 +1,5 @@
 -- Programs that return a sum: every input takes the one path of the sum.
 use Rattle.std.proofs.Common.{◌≡◌, ℕ, zero, suc, ◌+◌, ◌-◌, ◌≤◌, List, [], ◌∷◌, ◌++◌, length, map, Some, refl, sym, ap, subst, ◌∙◌, arith, slice_get, append-nil, All}
-use Rattle.std.proofs.lemmas.Option.{slice_get_past}
 use Rattle.cc_base.specs.declared.outcomes.Outcome.{Outcome}
 use Rattle.cc_base.specs.declared.ends.End.TheVariants.{Return}
 use Rattle.cc_base.specs.declared.inputs.Input.{Input}
@@ -13,26 +12,25 @@ use Rattle.cc_model.specs.Core.{Val, Cell, Func, Parts, Program}
 use Rattle.cc_model.specs.Meaning.{Fixed, Entry, Result, Ran, returned, prepend, go_on, ◌>>=◌, ◌>>◌, pure, stop, step_at, step, value, exec, exec_parts, after_part, returns, main, main_in, calls}
 use Rattle.cc_model.specs.Plain.{plain, Value, Data}
 use Rattle.cc_model.specs.declared.trees.Expr.{Expr}
-use Rattle.cc_model.specs.declared.trees.Stmt.TheVariants as stmt
-use Rattle.cc_model.specs.declared.trees.Item.{Item}
+use Rattle.cc_model.specs.declared.trees.Item.TheVariants as item
 use Rattle.cc_model.specs.declared.trees.Func as source
-use Rattle.cc_model.specs.declared.trees.Program as source_program
-use Rattle.cc_model.specs.OneSum as kind
-use Rattle.cc_model.specs.OneSum.{IsSum, deepest, ReturnsSum, IsOneSum}
-use Rattle.cc_model.specs.Resolve.{value_of, func_of, body_of, parts_of, param_of}
-use Rattle.cc_model.specs.Source.{functions_of, no_facts, program_of, line_of}
+use Rattle.cc_model.specs.OneSum.{IsSum, deepest, ReturnsSum}
+use Rattle.cc_model.specs.Resolve.{value_of}
+use Rattle.cc_model.specs.declared.checked.Checked.{Checked}
+use Rattle.cc_model.specs.Scopes.{Text}
+use Rattle.cc_model.specs.Reads.{Accepts}
+use Rattle.cc_model.specs.CheckedProgram.{IsChecked, core_of}
+use Rattle.cc_model.specs.Source.{line_of}
 use Rattle.cc_model.specs.Listing.{at_steps}
 use Rattle.cc_model.specs.Runs.{path_of, end_of, run, run_of, begin_of, fixed_of, path_at, end_at, params_of, params_of_func}
-use Rattle.cc_model.proofs.Resolved.{stmt_return, piece_stmt}
 use Rattle.concolic_cli.specs.declared.sums.Summed.{Summed}
 use Rattle.concolic_cli.specs.declared.sums.Summed.TheVariants as summed
 use Rattle.concolic_cli.specs.Sums.{SumRun, sum_run, end_of_summed}
+use Rattle.concolic_cli.proofs.SumFiles.{the_items, func_is}
+use Rattle.concolic_cli.proofs.SumChecked.{no_facts, returning, func_found, lines_are}
+use Rattle.concolic_cli.proofs.SumReads.{name_within}
 use Rattle.concolic_cli.proofs.SumBytes.{sum_bytes}
 use Rattle.concolic_cli.proofs.SumRuns.{St, state, Handler, Comes, Evaluated, sums_shown}
-
--- a function that returns a value of this expression
-abbrev returning : Cell → Val → Func
-returning c v = record { params = []; result = c; body = core.then (core.return (Some v)) core.finish }
 
 -- what is made of the value's evaluation: the function returns, and the run ends
 finished : (x : Fixed) (h : Handler) → Ran Outcome St Value → Ran Outcome St (Unit {0})
@@ -61,29 +59,7 @@ finished_shown x h depth events n l d (summed.Over e) log res c =
     subst (λ res. Ended (path_of plain log) (summed.Over e) (finished x h (record { log = log; result = res }))) (sym c.1)
     (record { path = refl; end = refl; in_time = c.2 })
 
--- ---- what is run so far
-
--- the one function of the items, and its sum
-found_sum : (items : List Item) → IsOneSum items → (n : ℕ) (f : source.Func) → slice_get (functions_of items) n ≡ Some f → (n ≡ 0) × (functions_of items ≡ f ∷ []) × (e : Expr) × ReturnsSum f e
-found_sum _ kind.nothing n f g = let past = slice_get_past {X = source.Func} [] n (omega arith) in absurd (cc (g, past))
-found_sum _ (kind.one {f = f'} {e = e} r) zero f g = let same : f' ≡ f = cc g in (refl, ap (λ u. u ∷ []) same, e, subst (λ u. ReturnsSum u e) same r)
-found_sum _ (kind.one {f = f'} {e = e} r) (suc n) f g = let past = slice_get_past {X = source.Func} (f' ∷ []) (suc n) (omega arith) in absurd (cc (g, past))
-
--- each function of the items returns a sum
-pub returns_sum : (items : List Item) → IsOneSum items → (n : ℕ) (f : source.Func) → slice_get (functions_of items) n ≡ Some f → (e : Expr) × ReturnsSum f e
-returns_sum items k n f g = let r = found_sum items k n f g in (r.2, r.3)
-
 -- ---- the run of such a program
-
-func_is : (f : source.Func) (e : Expr) → ReturnsSum f e → func_of no_facts f ≡ returning core.int_cell (value_of no_facts e)
-func_is f e g =
-    let made : List Cell → Parts → Func = λ ps b. record { params = ps; result = core.int_cell; body = b } in
-    let params : map (param_of no_facts) f.params ≡ [] = ap (λ u. map (param_of no_facts) u) g.params in
-    let piece = piece_stmt no_facts (stmt.Return g.word (Some e)) in
-    let returned = stmt_return no_facts g.word (Some e) in
-    let body : body_of no_facts f.body ≡ core.then (core.return (Some (value_of no_facts e))) core.finish =
-    ap (λ u. body_of no_facts u) g.body ∙ (ap (λ q. parts_of (q ∷ [])) piece ∙ ap (λ q. core.then q core.finish) returned) in
-    ap (λ u. made u (body_of no_facts f.body)) params ∙ ap (λ u. made [] u) body
 
 -- the steps of the body and of the return, one for each event, and one for each operator that another stands in
 enough : (steps depth n : ℕ) → depth + (n + 2) ≤ steps → (c : ℕ) × (steps ≡ suc (suc (c + depth))) × (n ≤ c)
@@ -121,22 +97,18 @@ pub record Sum_program (b : Limits) (p : Program) (r : SumRun) : Type 0 where
   pub in_time : at_steps (end_of_summed r.result) ≡ 0
   pub bytes : All HasByte r.path
 
-sum_program_at : (tokens : List Token) (tree : source_program.Program) (b : Limits) (n m : ℕ) (f : source.Func) (e : Expr) → IsOneSum tree.items →
-    slice_get (functions_of tree.items) n ≡ Some f → ReturnsSum f e → IsSum m e → b.depth + (m + 2) ≤ b.steps → Sum_program b (program_of tokens tree n) (sum_run b.depth (line_of tokens) e [])
-sum_program_at tokens tree b n m f e k g ret is_sum steps =
-    let p = program_of tokens tree n in
-    let found = found_sum tree.items k n f g in
-    let funcs : p.funcs ≡ returning core.int_cell (value_of no_facts e) ∷ [] = ap (λ l. map (func_of no_facts) l) found.1 ∙ ap (λ x. x ∷ []) (func_is f e ret) in
-    let here : slice_get (p.funcs) (p.entry) ≡ Some (returning core.int_cell (value_of no_facts e)) = ap (λ k. slice_get (p.funcs) k) found.0 ∙ ap (λ l. slice_get l 0) funcs in
-    let runs = run_shown b p m e is_sum steps here in
-    record {
+pub sum_program : (text : ℕ → Text) (tokens : List Token) (entry : Text) (c : Checked) (b : Limits) (f : source.Func) (e : Expr) → IsChecked text tokens entry c → Accepts tokens c.program →
+    (c.program).items ≡ item.Func f ∷ [] → ReturnsSum f e → b.depth + 20002 ≤ b.steps → Sum_program b (core_of c) (sum_run b.depth (line_of tokens) e [])
+sum_program text tokens entry c b f e right reads is ret steps =
+    let p = core_of c in
+    let items : (c.program).items ≡ the_items f.name ret.word e = is ∙ ap (λ u. item.Func u ∷ []) (func_is f e ret) in
+    let here = func_found text tokens entry c right f.name ret.word e items deepest ret.sum (name_within tokens c.program reads f is) in
+    let runs = run_shown b p deepest e ret.sum (omega (arith, steps)) here in
+    let shown : Sum_program b p (sum_run b.depth (p.line) e []) = record {
       no_params = ap (λ o. params_of_func o) here;
       path = λ h. (runs h).0;
       end = λ h. (runs h).1;
       in_time = (runs (record { cells = []; stream = [] })).2;
-      bytes = sum_bytes b.depth (line_of tokens) is_sum [] (λ k d h. absurd (omega (arith, h)));
-    }
-
-pub sum_program : (tokens : List Token) (tree : source_program.Program) (b : Limits) (n : ℕ) (f : source.Func) (e : Expr) → IsOneSum tree.items →
-    slice_get (functions_of tree.items) n ≡ Some f → ReturnsSum f e → b.depth + 20002 ≤ b.steps → Sum_program b (program_of tokens tree n) (sum_run b.depth (line_of tokens) e [])
-sum_program tokens tree b n f e k g ret steps = sum_program_at tokens tree b n deepest f e k g ret ret.sum (omega (arith, steps))
+      bytes = sum_bytes b.depth (p.line) ret.sum [] (λ k d h. absurd (omega (arith, h)));
+    } in
+    subst (λ l. Sum_program b p (sum_run b.depth l e [])) (lines_are text tokens entry c right) shown

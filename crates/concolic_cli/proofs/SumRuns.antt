@@ -19,7 +19,7 @@ use Rattle.cc_model.specs.OneSum as kind
 use Rattle.cc_model.specs.OneSum.{IsSum}
 use Rattle.cc_model.specs.Resolve.{value_of}
 use Rattle.cc_model.specs.Listing.{at_steps}
-use Rattle.cc_model.specs.Source.{no_facts}
+use Rattle.concolic_cli.proofs.SumChecked.{no_facts}
 use Rattle.cc_model.proofs.Resolved.{value_number, value_sum, value_difference}
 use Rattle.concolic_cli.specs.declared.sums.Summed.{Summed}
 use Rattle.concolic_cli.specs.declared.sums.Summed.TheVariants as summed

@@ -1,31 +1,32 @@
 -- What reading a source comes to.
-use Rattle.std.specs.Prelude.{ℕ, ◌≡◌, ◌<◌, ◌≤◌, List, [], ◌∷◌, Some, Ok, Err, slice_get, codes}
+use Rattle.std.specs.Prelude.{ℕ, ◌≡◌, true, false, List, [], ◌∷◌, Some, Ok, Err, codes}
 use Rattle.cc_model.specs.declared.tokens.Token.{Token}
+use Rattle.cc_model.specs.declared.checked.Checked.{Checked}
 use Rattle.cc_model.specs.declared.trees.Expr.{Expr}
 use Rattle.cc_model.specs.declared.trees.Func.{Func}
 use Rattle.cc_model.specs.declared.trees.Part.TheVariants as part
 use Rattle.cc_model.specs.declared.trees.Stmt.TheVariants as stmt
 use Rattle.cc_model.specs.declared.trees.Item.{Item}
+use Rattle.cc_model.specs.declared.trees.Item.TheVariants as item
 use Rattle.cc_model.specs.declared.trees.Program.{Program}
+use Rattle.cc_model.specs.declared.typing.Wrong as typing
+use Rattle.cc_model.specs.declared.typing.Wrong.TheVariants as fault
 use Rattle.cc_model.specs.Lexical.{LexicalFault, tokens_of, line_at}
 use Rattle.cc_model.specs.Reads.{Accepts}
-use Rattle.cc_model.specs.OneSum.{IsOneSum}
-use Rattle.cc_model.specs.Source.{functions_of, text_at, place_line, offset_of, what_of}
+use Rattle.cc_model.specs.Faults.{Found, WellTyped, IsFirst, has_entry}
+use Rattle.cc_model.specs.CheckedProgram.{IsChecked}
+use Rattle.cc_model.specs.OneSum.{ReturnsSum, IsOneSum}
+use Rattle.cc_model.specs.Source.{text_at, place_line, offset_of, what_of}
 use Rattle.concolic_cli.specs.declared.refusal.Wrong.{Wrong}
-use Rattle.concolic_cli.specs.declared.refusal.Wrong.TheVariants.{BadByte, BadNumber, OpenComment, BadDirective, Syntax, TooDeep}
+use Rattle.concolic_cli.specs.declared.refusal.Wrong.TheVariants.{BadByte, BadNumber, OpenComment, BadDirective, Syntax, TooDeep, UnknownName, DeclaredTwice, Mismatch, TooLarge}
 use Rattle.concolic_cli.specs.declared.refusal.Refusal.{Refusal}
 use Rattle.concolic_cli.specs.declared.refusal.Refusal.TheVariants.{BadWord, Missing, TooLong, FileFailed, Source, NotYet, NoEntry, OutputFailed, NoMemory}
 
--- a token is a part of the source
-pub record IsWithin (size : ℕ) (t : Token) : Type 0 where
-  pub starts : t.start < t.«end»
-  pub ends : t.«end» ≤ size
-
--- the bytes are these tokens, which read as this program, and it is one of those that are run so far
-pub record ReadsAs (bytes : List ℕ) (tokens : List Token) (program : Program) : Type 0 where
+-- the bytes are these tokens, and the program that these are is checked, to test the function with this name
+pub record ReadsAs (bytes entry : List ℕ) (tokens : List Token) (checked : Checked) : Type 0 where
   pub lexed : tokens_of bytes ≡ Ok tokens
-  pub read : Accepts tokens program
-  pub kind : IsOneSum program.items
+  pub read : Accepts tokens checked.program
+  pub right : IsChecked (text_at bytes tokens) tokens entry checked
 
 -- a byte, number, comment or directive of this line is bad
 abbrev pub IsLexical : List ℕ → ℕ → List ℕ → Type 0
@@ -35,6 +36,16 @@ IsLexical bytes line what = (fault : LexicalFault) × (tokens_of bytes ≡ Err f
 abbrev pub IsUnread : List ℕ → ℕ → Type 0
 IsUnread bytes line = (tokens : List Token) × (place : ℕ) × (tokens_of bytes ≡ Ok tokens) × (line ≡ place_line bytes tokens place) × ((tree : Program) → Accepts tokens tree → ⊥)
 
+-- the first fault of the program is of this kind, and the line is that of its token
+pub record IsFaulty (bytes : List ℕ) (line : ℕ) (what : typing.Wrong) : Type 0 where
+  pub tokens : List Token
+  pub tree : Program
+  pub token : ℕ
+  pub lexed : tokens_of bytes ≡ Ok tokens
+  pub read : Accepts tokens tree
+  pub first : IsFirst (text_at bytes tokens) tree.items (record { what = what; token = token })
+  pub place : line ≡ place_line bytes tokens token
+
 -- what is wrong at a line of the bytes
 abbrev pub IsWrong : List ℕ → ℕ → Wrong → Type 0
 IsWrong bytes line BadByte = IsLexical bytes line (codes "bad byte")
@@ -43,23 +54,33 @@ IsWrong bytes line OpenComment = IsLexical bytes line (codes "open comment")
 IsWrong bytes line BadDirective = IsLexical bytes line (codes "bad directive")
 IsWrong bytes line Syntax = IsUnread bytes line
 IsWrong bytes line TooDeep = IsUnread bytes line
+IsWrong bytes line UnknownName = IsFaulty bytes line fault.Unknown
+IsWrong bytes line DeclaredTwice = IsFaulty bytes line fault.Twice
+IsWrong bytes line Mismatch = IsFaulty bytes line fault.Mismatch
+IsWrong bytes line TooLarge = IsFaulty bytes line fault.TooLarge
 
--- the bytes are no program that is run so far, for this cause
-abbrev pub IsNoProgram : List ℕ → Refusal → Type 0
-IsNoProgram bytes (Source line wrong) = IsWrong bytes line wrong
-IsNoProgram bytes NotYet = (tokens : List Token) × (tree : Program) × (tokens_of bytes ≡ Ok tokens) × Accepts tokens tree × (IsOneSum tree.items → ⊥)
-IsNoProgram bytes NoMemory = Unit {0}
-IsNoProgram bytes (BadWord n) = ⊥
-IsNoProgram bytes Missing = ⊥
-IsNoProgram bytes TooLong = ⊥
-IsNoProgram bytes FileFailed = ⊥
-IsNoProgram bytes NoEntry = ⊥
-IsNoProgram bytes OutputFailed = ⊥
+-- the bytes are tokens that read as a program in which nothing is wrong
+pub record IsWellTyped (bytes : List ℕ) (tokens : List Token) (tree : Program) : Type 0 where
+  pub lexed : tokens_of bytes ≡ Ok tokens
+  pub read : Accepts tokens tree
+  pub well_typed : WellTyped (text_at bytes tokens) tree.items
+
+-- the bytes are no program with a function of this name, for this cause
+abbrev pub IsNoProgram : List ℕ → List ℕ → Refusal → Type 0
+IsNoProgram bytes entry (Source line wrong) = IsWrong bytes line wrong
+IsNoProgram bytes entry NoEntry = (tokens : List Token) × (tree : Program) × IsWellTyped bytes tokens tree × (has_entry (text_at bytes tokens) tree.items entry ≡ false)
+IsNoProgram bytes entry NoMemory = Unit {0}
+IsNoProgram bytes entry (BadWord n) = ⊥
+IsNoProgram bytes entry Missing = ⊥
+IsNoProgram bytes entry TooLong = ⊥
+IsNoProgram bytes entry FileFailed = ⊥
+IsNoProgram bytes entry NotYet = ⊥
+IsNoProgram bytes entry OutputFailed = ⊥
 
 -- the function returns the expression, and does nothing else
 abbrev pub Returns : Func → Expr → Type 0
 Returns f e = (word : ℕ) × (f.body ≡ part.Stmt (stmt.Return word (Some e)) ∷ [])
 
--- function n of the items has the name
-abbrev pub IsNamed : List ℕ → List Token → List Item → ℕ → List ℕ → Func → Type 0
-IsNamed bytes tokens items n name f = (slice_get (functions_of items) n ≡ Some f) × (text_at bytes tokens f.name ≡ name)
+-- the items are one function, which returns the sum
+abbrev pub IsSumOf : List Item → Expr → Type 0
+IsSumOf items e = (f : Func) × (items ≡ item.Func f ∷ []) × ReturnsSum f e

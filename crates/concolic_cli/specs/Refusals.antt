@@ -6,7 +6,7 @@ use Rattle.cc_model.specs.Source.{source_text, not_yet_text, no_entry_text}
 use Rattle.cc_outside.specs.Faults.{Rose}
 use Rattle.cc_outside.specs.Told.{appended, WritesPart}
 use Rattle.concolic_cli.specs.declared.refusal.Wrong.{Wrong}
-use Rattle.concolic_cli.specs.declared.refusal.Wrong.TheVariants.{BadByte, BadNumber, OpenComment, BadDirective, Syntax, TooDeep}
+use Rattle.concolic_cli.specs.declared.refusal.Wrong.TheVariants.{BadByte, BadNumber, OpenComment, BadDirective, Syntax, TooDeep, UnknownName, DeclaredTwice, Mismatch, TooLarge}
 use Rattle.concolic_cli.specs.declared.refusal.Refusal.{Refusal}
 use Rattle.concolic_cli.specs.declared.refusal.Refusal.TheVariants.{BadWord, Missing, TooLong, FileFailed, Source, NotYet, NoEntry, OutputFailed, NoMemory}
 
@@ -17,6 +17,10 @@ what_text OpenComment = codes "open comment"
 what_text BadDirective = codes "bad directive"
 what_text Syntax = codes "syntax"
 what_text TooDeep = codes "too deep"
+what_text UnknownName = codes "unknown name"
+what_text DeclaredTwice = codes "declared twice"
+what_text Mismatch = codes "type"
+what_text TooLarge = codes "too large"
 
 -- file NAME: WHAT
 abbrev pub file_text : List ℕ → List ℕ → List ℕ

@@ -5,6 +5,7 @@ use Rattle.cc_model.specs.Core.{Program}
 use Rattle.cc_model.specs.Tested.{tested}
 use Rattle.cc_model.specs.Listing.{Listing, IsComplete, path_count, run_count, tests, Begun, Sound, Enumerates}
 use Rattle.cc_model.specs.Report.{report_text, verdict_of}
+use Rattle.cc_model.specs.OneSum.{IsOneSum}
 use Rattle.cc_model.specs.Source.{IsProgram, Refuses, source_text, not_yet_text, no_entry_text}
 use Rattle.cc_outside.specs.Faults.{Rose}
 use Rattle.cc_outside.specs.Held.{Held, file_of}
@@ -34,6 +35,8 @@ pub record IsListing (p : Program) (b : Limits) (runs : ℕ) (l : Listing) : Typ
 -- a listing of the program that the bytes are
 pub record Lists (bytes entry : List ℕ) (b : Limits) (runs : ℕ) (p : Program) (l : Listing) : Type 0 where
   pub program : IsProgram bytes entry p
+  -- at this stage a program that is run is one sum
+  pub kind : IsOneSum ((program.checked).program).items
   pub listing : IsListing p b runs l
 
 -- the cause of a refusal of the file

@@ -51,6 +51,10 @@ fn what(wrong: Wrong) -> &'static str
         Wrong::BadDirective => "bad directive",
         Wrong::Syntax => "syntax",
         Wrong::TooDeep => "too deep",
+        Wrong::UnknownName => "unknown name",
+        Wrong::DeclaredTwice => "declared twice",
+        Wrong::Mismatch => "type",
+        Wrong::TooLarge => "too large",
     }
 }
 
@@ -142,7 +146,7 @@ pub fn refuse<E: Sink>(
             Status(2)
         }
         Refusal::NotYet => {
-            say(err, b"source not yet\n");
+            say(err, b"run not yet\n");
             Status(3)
         }
         Refusal::OutputFailed => {

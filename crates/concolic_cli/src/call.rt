@@ -5,6 +5,7 @@ ghost use Rattle.cc_model.specs.declared.commands.RunWords.{RunWords};
 ghost use Rattle.cc_model.specs.declared.commands.Command.TheVariants.{Run};
 ghost use Rattle.cc_model.specs.Core.{Program};
 ghost use Rattle.cc_model.specs.Report.{newline};
+ghost use Rattle.cc_model.specs.OneSum.{IsOneSum};
 ghost use Rattle.cc_model.specs.Source.{IsProgram, Refuses};
 ghost use Rattle.cc_model.specs.Words.{texts, Accepted, BadWord};
 ghost use Rattle.cc_outside.specs.Faults.{Rose};
@@ -87,9 +88,9 @@ pub fn concolic<F: Files, K: Sink, E: Sink>(
         → Headline (texts words.now) (F.held files.old) (K.written out.old) (K.written out.new) result.0 }
     ensures quiet { result.0 ≤ 1 → E.written err.new ≡ E.written err.old }
 
-    // They come where nothing is refused and nothing fails, unless memory is wanting.
+    // They come where nothing is refused and nothing fails, unless memory is wanting. So far, a program that is run is one sum.
     ensures complete { (run : RunWords) (bytes : List ℕ) (program : Program) → IsSource (texts words.now) run (F.held files.old) bytes
-        → IsProgram bytes (word_of (texts words.now) run.entry) program
+        → (read : IsProgram bytes (word_of (texts words.now) run.entry) program) → IsOneSum ((read.checked).program).items
         → (Rose (F.faults files.old) (F.faults files.new) → ⊥) → (Rose (K.faults out.old) (K.faults out.new) → ⊥)
         → (result.0 ≡ 0) ⊎ ((result.0 ≡ 1) ⊎ (result.0 ≡ 7)) }
 

@@ -23,6 +23,14 @@ pub enum Wrong {
     Syntax,
     /// A token's level is above 200.
     TooDeep,
+    /// A name names nothing.
+    UnknownName,
+    /// A name is declared anew.
+    DeclaredTwice,
+    /// A type is wrong.
+    Mismatch,
+    /// A length, a type or the number of sites is too large.
+    TooLarge,
 }
 
 /// Why a call is refused.
@@ -38,7 +46,7 @@ pub enum Refusal {
     FileFailed,
     /// The line of the source, from 1, and what is wrong there.
     Source(u32, Wrong),
-    /// The program is none of those that are run so far.
+    /// The program is accepted, and is none of those that are run so far.
     NotYet,
     /// No function with a body has the entry's name.
     NoEntry,

@@ -41,12 +41,12 @@ fn prepare(alloc: Global, source: &[u8], entry: &str, words: &RunWords) -> Resul
     ensures reports { IfOk result (λ r. ReportsOn source.now entry.now (words.now).bounds (words.now).runs r) }
     ensures source_refused { IfErr result (λ e. SourceCause source.now entry.now e) }
 {
-    let read = match read_program(alloc, source) {
+    let read = match read_program(alloc, source, entry) {
         Ok(read) => read,
         Err(refusal) => return Err(refusal),
     };
-    let Some(sum) = tested_sum(source, &read, entry) else {
-        return Err(Refusal::NoEntry);
+    let Some(sum) = tested_sum(&read.checked.program) else {
+        return Err(Refusal::NotYet);
     };
     let Ok(ran) = run(alloc, &read.tokens, words.bounds.depth(), sum) else {
         return Err(Refusal::NoMemory);

@@ -2,7 +2,7 @@
 use Rattle.concolic_cli.proofs.program.refusal_at.Goals as goal
 
 pub returns-in-Syntax : goal.returns-in-Syntax
-returns-in-Syntax c = λ h. (c.args.tokens.now, c.in-Syntax.at, c.requires.lexed, c.place_line.ensures, λ tree a. cc (h tree a, c.in-Syntax.is))
+returns-in-Syntax c = λ entry h. (c.args.tokens.now, c.in-Syntax.at, c.requires.lexed, c.place_line.ensures, λ tree a. cc (h tree a, c.in-Syntax.is))
 
 pub returns-in-TooDeep : goal.returns-in-TooDeep
-returns-in-TooDeep c = λ h. (c.args.tokens.now, c.in-TooDeep.at, c.requires.lexed, c.place_line-in-TooDeep.ensures, λ tree a. cc (h tree a, c.in-TooDeep.is))
+returns-in-TooDeep c = λ entry h. (c.args.tokens.now, c.in-TooDeep.at, c.requires.lexed, c.place_line-in-TooDeep.ensures, λ tree a. cc (h tree a, c.in-TooDeep.is))
