@@ -1,5 +1,5 @@
 -- Traced runs of a program, and the conditions that they collect. All of it is this project's own.
-use Rattle.std.specs.Prelude.{ℕ, zero, suc, Bool, List, [], ◌∷◌, ◌++◌, map, Option, nat_eq, if◌then◌else◌, ℤ}
+use Rattle.std.specs.Prelude.{ℕ, zero, suc, ◌-◌, length, Bool, List, [], ◌∷◌, ◌++◌, map, Option, nat_eq, if◌then◌else◌, ℤ}
 use Rattle.cc_base.specs.declared.outcomes.Outcome.{Outcome}
 use Rattle.cc_base.specs.declared.inputs.Input.{Input}
 use Rattle.cc_base.specs.Forms.{Atom}
@@ -13,6 +13,7 @@ use Rattle.cc_model.specs.Meaning.{Entry, State, Result, ok, over, Ran}
 use Rattle.cc_model.specs.Plain.{locals_at}
 use Rattle.cc_model.specs.Runs.{Begin, run, fixed_of, params_of, begin_of}
 use Rattle.cc_model.specs.Tested.{Term, Answer, Layer, tested}
+use Rattle.cc_model.specs.Answers.{Answers}
 use Rattle.cc_model.specs.FormOperations.{Forms}
 use Rattle.cc_model.specs.Traced.{Traced, Data, Shadow, form, none, Choice, Event, one_of, term, cell_shadows, arg_places, traced}
 
@@ -57,6 +58,13 @@ condition_at [] l = []
 condition_at (o ∷ p) [] = []
 condition_at (o ∷ []) (a ∷ l) = atoms_of o (alternatives a.event)
 condition_at (o ∷ (o' ∷ p)) (a ∷ l) = taken a.event ++ condition_at (o' ∷ p) l
+
+-- the atoms of the last outcome of a prefix, among the alternatives of its event
+unfoldable pub last_atoms : Path → List (Entry Event) → List Atom
+last_atoms [] l = []
+last_atoms (o ∷ p) [] = []
+last_atoms (o ∷ []) (a ∷ l) = atoms_of o (alternatives a.event)
+last_atoms (o ∷ (o' ∷ p)) (a ∷ l) = last_atoms (o' ∷ p) l
 
 -- the alternatives of the event with this number, from 0
 unfoldable pub alternatives_at : ℕ → List (Entry Event) → List Choice
@@ -131,13 +139,18 @@ module _ (f : Forms) (p : Program) (b : Limits) where
   abbrev pub MeetsAt : Input → Path → Input → Type 0
   MeetsAt u q h = Meets (values_at u h) (condition_at q (events_of u))
 
-  -- the tested function with what its traced runs tell, where the solver's answers are given
-  abbrev pub layer : (ℕ → ℕ) → (Input → Path → Answer) → Layer
-  layer column answer = record {
+  -- what comes of solving the condition of u at a prefix whose last outcome is an alternative, under a budget
+  abbrev pub AnswersAt : ℕ → Input → Path → Answer → Type 0
+  AnswersAt budget u q a =
+      Answers b.lo b.hi budget (condition (length q - 1) (events_of u)) (last_atoms q (events_of u)) a
+
+  -- the tested function with what its traced runs tell; the terms' columns are given, and the budget of a solve
+  abbrev pub layer : (ℕ → ℕ) → ℕ → Layer
+  layer column budget = record {
     runs = tested p b;
     others = λ u k. map (λ c. c.outcome) (alternatives_at k (events_of u));
     Meets = λ u q h. MeetsAt u q h;
-    answer = answer;
+    Answers = AnswersAt budget;
     clean = λ u. clean (events_of u);
     terms = λ u. terms p.line column (events_of u);
   }

@@ -15,9 +15,7 @@ pub mod ReadExpressions
 pub mod ReadStatements
 pub mod ReadItems
 pub mod Reads
-pub mod Words
 pub mod Resolve
-pub mod OneSum
 pub mod Source
 pub mod Instructions
 pub mod Types
@@ -27,6 +25,7 @@ pub mod Sites
 pub mod Faults
 pub mod FormOperations
 pub mod Traced
+pub mod Answers
 pub mod Conditions
 pub mod Exact
 pub mod Compiles

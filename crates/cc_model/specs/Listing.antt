@@ -227,7 +227,7 @@ module _ (after : Option Path) where
       pub run : (t : Test) → Listed t l.items → (t.input ≡ (y.runs).base) ⊎ ((u : Input) × (p : Path) × BeginsWith t.path p × Cause l.items u p t.input)
       pub stray : (t : Test) (p : Path) → In (stray_item t p) l.items → (u : Input) × Cause l.items u p t.input × (suc (y.clean u) < length p)
       pub spent : (p : Path) → In (spent_item p) l.items →
-          (u : Input) × (q : Path) × (o : Outcome) × (p ≡ next q o) × Source u l.items × Offers y u q o × (y.answer u p ≡ spent)
+          (u : Input) × (q : Path) × (o : Outcome) × (p ≡ next q o) × Source u l.items × Offers y u q o × y.Answers u p spent
       pub unrun : (i : Input) (p : Path) → In (unrun_item i p) l.items → ((u : Input) × Cause l.items u p i) × (count_by is_run l.items ≡ limit)
       pub terms_ascend : Pairwise TermBefore l.terms
       pub terms : (e : Term) → In e l.terms ↔ ((t : Test) × WasRun t l.items × In e (y.terms t.input))
@@ -236,9 +236,9 @@ module _ (after : Option Path) where
     -- that way, the listing stopped before it, or it is passed over
     abbrev pub Settled : List Item → Input → Path → Type 0
     Settled l u p =
-        (y.answer u p ≡ never)
+        y.Answers u p never
         ⊎ (ClosedAt p l
-        ⊎ (((y.answer u p ≡ turned) × (t : Test) × Listed t l × BeginsWith t.path p)
+        ⊎ ((y.Answers u p turned × (t : Test) × Listed t l × BeginsWith t.path p)
         ⊎ (((i : Input) × (w : Path) × In (unrun_item i w) l × Before w p)
         ⊎ PassedOver p)))
 

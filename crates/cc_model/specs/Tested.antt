@@ -48,7 +48,7 @@ pub record Layer : Type 1 where
   -- an input meets the condition of the first input at this prefix
   pub Meets : Input → Path → Input → Type 0
   -- what comes of solving the condition of the input at this prefix, under the budget
-  pub answer : Input → Path → Answer
+  pub Answers : Input → Path → Answer → Type 0
   -- how many events come before the first at which the run concretised
   pub clean : Input → ℕ
   -- the terms that occur
