@@ -8,7 +8,7 @@ use Rattle.std.specs.Option.{option_and_then, option_copied}
 use Rattle.std.proofs.lemmas.Iterator.Adapters.{position_from-zero}
 use Rattle.std.proofs.lemmas.Slice.Eq.{bytes_eq-Decides}
 use Rattle.indexmap.specs.IndexMap.{insert_entry}
-use Rattle.cc_model.specs.Scopes.{or_else}
+use Rattle.cc_model.specs.Scopes.{or_else, has_tag, tag_in}
 
 plus_none : (i : ℕ) → i ≡ i + 0
 plus_none i = omega arith
@@ -126,8 +126,20 @@ module _ {K : Type 0} (of : K → List ℕ) where
       let empty : lookup (eq k) es ≡ None = lookup_same (eq k) (λ j. bytes_eq (of k) (of j)) same es ∙ ap (place es) e ∙ sym h ∙ none_of r (sym i ∙ f) in
       ap (λ l. place l q) n ∙ place_insert eq es k v empty q ∙ ap (λ z. or_else (place es q) (if bytes_eq q z then Some v else None)) e
 
+-- one more at the end, of which the tests say what they say of its name
+pub tested_added : {X : Type 0} (p : List ℕ → X → Bool) (xs new : List X) (x : X) (name : List ℕ) (n : ℕ) (g g' : List ℕ → Option ℕ) → new ≡ xs ++ x ∷ [] → ((q : List ℕ) → p q x ≡ bytes_eq q name) → n ≡ length xs
+    → ((q : List ℕ) → g q ≡ position (p q) xs) → ((q : List ℕ) → g' q ≡ or_else (g q) (if bytes_eq q name then Some n else None)) → (q : List ℕ) → g' q ≡ position (p q) new
+tested_added p xs new x name n g g' e t h i j q =
+    j q ∙ ap (λ m. or_else (g q) (if bytes_eq q name then Some m else None)) h ∙ ap (λ a. or_else a (if bytes_eq q name then Some (length xs) else None)) (i q)
+    ∙ ap (λ b. or_else (position (p q) xs) (if b then Some (length xs) else None)) (sym (t q)) ∙ sym (position_push (p q) xs x) ∙ ap (position (p q)) (sym e)
+
 pub place_added : (names new : List (List ℕ)) (text name : List ℕ) (n : ℕ) (g g' : List ℕ → Option ℕ) → new ≡ names ++ text ∷ [] → text ≡ name → n ≡ length names
     → ((q : List ℕ) → g q ≡ position (bytes_eq q) names) → ((q : List ℕ) → g' q ≡ or_else (g q) (if bytes_eq q name then Some n else None)) → (q : List ℕ) → g' q ≡ position (bytes_eq q) new
-place_added names new text name n g g' e t h i j q =
-    j q ∙ ap (λ m. or_else (g q) (if bytes_eq q name then Some m else None)) h ∙ ap (λ a. or_else a (if bytes_eq q name then Some (length names) else None)) (i q)
-    ∙ sym (position_push (bytes_eq q) names name) ∙ ap (position (bytes_eq q)) (ap (λ z. names ++ z ∷ []) (sym t) ∙ sym e)
+place_added names new text name n g g' e t h i j = tested_added bytes_eq names new text name n g g' e (λ q. ap (bytes_eq q) t) h i j
+
+pub tag_added : (tags new : List (Option (List ℕ))) (text name : List ℕ) (n : ℕ) (g g' : List ℕ → Option ℕ) → new ≡ tags ++ Some text ∷ [] → text ≡ name → n ≡ length tags
+    → ((q : List ℕ) → g q ≡ tag_in q tags) → ((q : List ℕ) → g' q ≡ or_else (g q) (if bytes_eq q name then Some n else None)) → (q : List ℕ) → g' q ≡ tag_in q new
+tag_added tags new text name n g g' e t h i j = tested_added has_tag tags new (Some text) name n g g' e (λ q. ap (bytes_eq q) t) h i j
+
+pub none_added : (tags new : List (Option (List ℕ))) → new ≡ tags ++ None ∷ [] → (q : List ℕ) → tag_in q tags ≡ tag_in q new
+none_added tags new e q = or_none (tag_in q tags) ∙ sym (position_push (has_tag q) tags None) ∙ ap (λ z. tag_in q z) (sym e)

@@ -3,8 +3,11 @@
 
 pub mod name_index;
 pub mod named;
+mod places;
 pub mod preceding;
+pub mod tag_index;
 
 pub use name_index::NameIndex;
 pub use named::{HasName, Named};
 pub use preceding::Preceding;
+pub use tag_index::TagIndex;

@@ -1,9 +1,9 @@
 //! Names in order, each found without a walk over them.
 
-ghost use Rattle.std.specs.Prelude.{◌≡◌, ◌++◌, ◌∷◌, ◌<◌, [], ℕ, List, length, position, bytes_eq, IfSome, OnOk, OnErr, IfOk, Some, None, if◌then◌else◌};
-ghost use Rattle.indexmap.specs.IndexMap.{get_by};
+ghost use Rattle.std.specs.Prelude.{◌≡◌, ◌++◌, ◌∷◌, ◌<◌, [], length, position, bytes_eq, IfSome, OnOk, OnErr};
 ghost use Rattle.cc_model.specs.Scopes as scopes;
 
+use crate::places::{place_of, put, take_last};
 use cc_model::base::NoMemory;
 use cc_model::typing::Text;
 use indexmap::IndexMap;
@@ -28,38 +28,6 @@ impl Model for NameIndex {
     ghost view = { λ s. s.names };
 
     ghost invariant = { λ s. (name : List ℕ) → get_by (λ k. bytes_eq name k.items) s.places ≡ position (bytes_eq name) s.names };
-}
-
-/// The place of a name.
-fn place_of(places: &IndexMap<Vec<u8>, usize>, name: &[u8]) -> Option<usize>
-    ensures { result ≡ get_by (λ k. bytes_eq name.now k.items) places.now }
-{
-    places.get(name).copied()
-}
-
-/// Puts the place of a name that has none yet.
-fn put(
-    alloc: Global,
-    places: &mut IndexMap<Vec<u8>, usize>,
-    name: &[u8],
-    place: usize,
-) -> Result<(), NoMemory>
-    ensures found { OnOk result ((q : List ℕ) → get_by (λ k. bytes_eq q k.items) places.new ≡ scopes.or_else (get_by (λ k. bytes_eq q k.items) places.old) (if bytes_eq q name.now then Some place else None)) }
-    ensures kept { OnErr result (places.new.entries ≡ places.old.entries) }
-{
-    if place_of(places, name).is_some() {
-        return Ok(());
-    }
-    let key = Vec::from_slice(alloc, name)?;
-    places.insert(key, place)?;
-    Ok(())
-}
-
-/// Takes the last element away.
-fn take_last(names: &mut Items<Text>)
-    ensures { (before : List (List ℕ)) (last : List ℕ) → names.old ≡ before ++ last ∷ [] → names.new ≡ before }
-{
-    names.pop();
 }
 
 impl NameIndex {

@@ -5,8 +5,9 @@ ghost use Rattle.std.specs.Option.{option_copied};
 ghost use Rattle.cc_model.specs.Scopes as scopes;
 
 use crate::name_index::NameIndex;
+use crate::places::take_last;
 use cc_model::base::NoMemory;
-use cc_model::typing::{Alias, Variable};
+use cc_model::typing::{Alias, Member, Variable};
 use sqlite_items::Items;
 use std::alloc::Global;
 use std::marker::Model;
@@ -36,6 +37,14 @@ impl HasName for Alias {
     }
 }
 
+impl HasName for Member {
+    ghost name_of = { λ m. m.name };
+
+    fn name(&self) -> &[u8] {
+        self.name.as_slice()
+    }
+}
+
 /// A list of what has names. Contracts see it as a list.
 #[derive(Drop)]
 pub struct Named<T: HasName> {
@@ -51,13 +60,6 @@ impl<T: HasName> Model for Named<T> {
     ghost view = { λ l. l.items };
 
     ghost invariant = { λ l. l.names ≡ map T.name_of l.items };
-}
-
-/// Takes the last element away.
-fn take_last<T: Drop>(items: &mut Items<T>)
-    ensures { (before : List T) (last : T) → items.old ≡ before ++ last ∷ [] → items.new ≡ before }
-{
-    items.pop();
 }
 
 impl<T: HasName> Named<T> {

@@ -1,4 +1,4 @@
-use Rattle.std.proofs.Common.{◌≡◌, ◌∙◌, ap, is_some, position, bytes_eq}
+use Rattle.std.proofs.Common.{◌∙◌, ap, is_some, position, bytes_eq}
 use Rattle.c_names.proofs.IndexLemmas.{any_position}
 use Rattle.c_names.proofs.name_index.NameIndex.has.Goals as goal
 

@@ -1,4 +1,4 @@
-use Rattle.std.proofs.Common.{◌≡◌, ◌∙◌, ◌<◌, ap, sym, subst, length, IfSome, position, bytes_eq}
+use Rattle.std.proofs.Common.{◌∙◌, ◌<◌, ap, sym, subst, length, IfSome, position, bytes_eq}
 use Rattle.c_names.proofs.IndexLemmas.{position_within}
 use Rattle.c_names.proofs.name_index.NameIndex.position.Goals as goal
 

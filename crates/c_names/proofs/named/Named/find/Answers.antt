@@ -1,4 +1,4 @@
-use Rattle.std.proofs.Common.{◌≡◌, ◌∙◌, ap, sym, Some, None, find, bytes_eq}
+use Rattle.std.proofs.Common.{◌∙◌, ap, sym, Some, None, find, bytes_eq}
 use Rattle.c_names.proofs.IndexLemmas.{found_at}
 use Rattle.c_names.proofs.named.Named.find.Goals as goal
 
