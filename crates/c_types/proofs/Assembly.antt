@@ -1,11 +1,8 @@
 -- The checked program, put together from its parts.
-use Rattle.std.proofs.Common.{◌≡◌, ◌∙◌, refl, sym, ap, subst, ℕ, ◌<◌, true, false, List, [], ◌∷◌, ◌++◌, map, length, slice_get, Option, Some, None, Result, Ok, Err, IfOk}
-use Rattle.cc_base.specs.declared.cells.TyId.{TyId}
+use Rattle.std.proofs.Common.{◌≡◌, ◌∙◌, sym, ap, subst, ℕ, ◌<◌, true, false, List, ◌++◌, map, length, slice_get, Option, Some, None, Result, Ok, Err, IfOk}
 use Rattle.cc_model.specs.declared.tokens.Token.{Token}
-use Rattle.cc_model.specs.declared.checked.Checked.{Checked}
 use Rattle.cc_model.specs.declared.checked.Site.{Site}
 use Rattle.cc_model.specs.declared.checked.Target.{Target}
-use Rattle.cc_model.specs.declared.trees.Program.{Program}
 use Rattle.cc_model.specs.declared.trees.Item.{Item}
 use Rattle.cc_model.specs.declared.typing.CType.{CType}
 use Rattle.cc_model.specs.declared.typing.Variable.{Variable}
@@ -14,7 +11,6 @@ use Rattle.cc_model.specs.declared.typing.File.{File}
 use Rattle.cc_model.specs.declared.typing.Note.{Note}
 use Rattle.cc_model.specs.Scopes.{Text, nothing_before, after_items, has_name, function_in, file_of}
 use Rattle.cc_model.specs.Sites.{sites_in}
-use Rattle.cc_model.specs.Faults as faults
 use Rattle.cc_model.specs.Faults.{WellTyped, IsFirst, notes_in, faults_in, faults_among, sites_fault, has_entry}
 use Rattle.cc_model.specs.CheckedProgram.{IsChecked, site_of, meant, type_at, expression_tokens, expression_types, declared_types, globals_in, slots_in}
 use Rattle.c_types.specs.declared.least.Found.{Found}

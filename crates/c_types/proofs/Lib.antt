@@ -1,10 +1,12 @@
 pub mod ListLemmas
+pub mod FoundLemmas
 pub mod JudgeLemmas
 pub mod TellingLaws
 pub mod StatementLaws
 pub mod ArgumentLemmas
 pub mod ProductLemmas
 pub mod FieldLemmas
+pub mod FirstLemmas
 pub mod LengthLemmas
 pub mod StructLaws
 pub mod LocalLaws
@@ -25,3 +27,4 @@ pub mod CheckedLaws
 pub mod DeclaredLaws
 pub mod NumberingLaws
 pub mod Assembly
+pub mod GatherLemmas

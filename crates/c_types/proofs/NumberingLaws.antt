@@ -1,5 +1,5 @@
 -- The types of a checked program are those that a numbering gives.
-use Rattle.std.proofs.Common.{◌≡◌, sym, subst, ℕ, List, [], ◌∷◌, map, length, slice_get, Some}
+use Rattle.std.proofs.Common.{◌≡◌, sym, subst, ℕ, List, [], ◌∷◌, map}
 use Rattle.cc_base.specs.declared.cells.TyId.{TyId}
 use Rattle.cc_base.specs.declared.cells.CellTy.{CellTy}
 use Rattle.cc_model.specs.declared.checked.Ty.{Ty}
@@ -13,7 +13,7 @@ use Rattle.cc_model.specs.declared.typing.Variable.{Variable}
 use Rattle.cc_model.specs.declared.typing.File.{File}
 use Rattle.cc_model.specs.Scopes.{Text, file_of}
 use Rattle.cc_model.specs.Faults.{notes_in, WellTyped}
-use Rattle.cc_model.specs.CheckedProgram.{Denotes, AllDenote, AreTypes, AreCells, AreSigs, declared_types, globals_in, layout_of}
+use Rattle.cc_model.specs.CheckedProgram.{declared_types, globals_in}
 use Rattle.c_types.specs.declared.numbering.Numbering.{Numbering}
 use Rattle.c_types.specs.Table.{Continues, AreAmong, AllNumbered}
 use Rattle.c_types.specs.Layouts.{LaidOut}

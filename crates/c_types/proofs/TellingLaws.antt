@@ -1,5 +1,5 @@
 -- What is told of an expression is what it is judged to be, with its notes behind the earlier ones.
-use Rattle.std.proofs.Common.{◌≡◌, ◌∙◌, refl, sym, ap, ℕ, Bool, true, false, ◌&&◌, if◌then◌else◌, ℤ, List, [], ◌∷◌, ◌++◌, map, flat_map, slice_get, take, unwrap_or, Option, Some, None, append_assoc, append-nil, IfOk, Result, Ok, Err}
+use Rattle.std.proofs.Common.{◌≡◌, ◌∙◌, refl, sym, ap, ℕ, Bool, true, false, ◌&&◌, if◌then◌else◌, List, [], ◌∷◌, ◌++◌, map, slice_get, take, unwrap_or, Option, Some, None, append_assoc, append-nil, IfOk, Result, Ok, Err}
 use Rattle.cc_model.specs.declared.checked.Target.TheVariants as target
 use Rattle.cc_model.specs.declared.trees.Expr.{Expr}
 use Rattle.cc_model.specs.declared.trees.TypeName.{TypeName}
@@ -15,7 +15,7 @@ use Rattle.cc_model.specs.declared.typing.Note.TheVariants.{Fault as fault, Mean
 use Rattle.cc_model.specs.declared.typing.Wrong.TheVariants.{Unknown as unknown, Mismatch as mismatch}
 use Rattle.cc_model.specs.Types.{int_type, pointer_to, target_of, element_of, is_array, no_array, is_void, struct_behind, same_type}
 use Rattle.cc_model.specs.Scopes.{Text, View, variable_named, object_type, field_in, fields_size}
-use Rattle.cc_model.specs.Typing.{is_well, type_of, is_int_shape, is_pointer_shape, has_truth, is_place, can_equal, null_beside, Judged, right, silent, judge, both_well, number_shape, unknown_if_none, size_notes, operand_of, notes_of, all_well, call_notes, call_holds, called, member_typed, field_type, struct_place, callee, called_notes, call_of, call_value, member_at, member, variable, named, cast_type, cast_notes, cast_judged, made, malloc, typing_level, judged}
+use Rattle.cc_model.specs.Typing.{is_well, type_of, is_int_shape, is_pointer_shape, has_truth, is_place, can_equal, null_beside, Judged, right, silent, judge, both_well, unknown_if_none, size_notes, operand_of, notes_of, all_well, call_notes, call_holds, called, member_typed, field_type, struct_place, callee, called_notes, call_of, call_value, member_at, member, variable, named, cast_type, cast_notes, cast_judged, made, malloc, typing_level, judged}
 use Rattle.c_types.specs.Telling as telling
 use Rattle.c_types.specs.Telling.{Answer, answer, told, behind, Teller, teller, one, two, Args, args_told, told_args, no_args, called_with, malloc_told, telling_level, tell}
 use Rattle.cc_model.proofs.Related.{AllRelated, Levels, related}

@@ -8,6 +8,7 @@ pub mod Views
 pub mod FirstFault
 pub mod BodyLocals
 pub mod Places
+pub mod FileNames
 pub mod Noted
 pub mod Ranks
 pub mod Refused

@@ -1,20 +1,19 @@
 //! What is said of a function's name, by its declarations.
 
-ghost use Rattle.std.specs.Prelude.{◌≡◌, ◌++◌, ◌&&◌, ◌||◌, is_some, OnOk, IfOk};
-ghost use Rattle.std.specs.Option.{option_copied};
+ghost use Rattle.std.specs.Prelude.{◌≡◌, ◌++◌, ◌&&◌, ◌||◌, false, map, slice_get, unwrap_or, OnOk};
 ghost use Rattle.cc_model.specs.Source.{text_at};
 ghost use Rattle.cc_model.specs.Scopes as scopes;
 ghost use Rattle.cc_model.specs.Faults as faults;
+ghost use Rattle.c_types.specs.FileNames as names;
 
 use crate::declarators::note_twice;
 use crate::functions::{note_no_struct, note_result, same_if};
-use crate::names::{alias_in, function_in, variable_in};
 use crate::statements::note_held;
 use crate::view::View;
 use cc_model::Target;
 use cc_model::base::NoMemory;
-use cc_model::trees::{Func, Param, ResultType};
-use cc_model::typing::{Before, CType, Function, Note};
+use cc_model::trees::ResultType;
+use cc_model::typing::{CType, Function, Note};
 use sqlite_items::{Items, at};
 
 /// Whether all those types are known.
@@ -52,8 +51,8 @@ fn same_all(one: &[Option<CType>], other: &[Option<CType>]) -> bool
 }
 
 /// Whether all types of a declaration are known.
-fn is_whole(function: &Function) -> bool
-    ensures { result ≡ (is_some (function.now).result && faults.all_known (function.now).params) }
+pub fn is_whole(function: &Function) -> bool
+    ensures { result ≡ names.is_whole function.now }
 {
     function.result.is_some() && all_known(function.params.as_slice())
 }
@@ -65,20 +64,45 @@ fn same_types(one: &Function, other: &Function) -> bool
     same_if(&one.result, &other.result) && same_all(one.params.as_slice(), other.params.as_slice())
 }
 
-/// Notes a declaration that doesn't agree with the first one of the function, where all their types are known.
+/// Notes a declaration that doesn't agree with the first one of the function, where all their types are known; `whole` says that those of the first one are.
 fn note_agreed(
     t: u32,
     function: &Function,
-    first: Option<&Function>,
+    first: &Function,
+    whole: bool,
     notes: &mut Items<Note>,
 ) -> Result<(), NoMemory>
-    ensures { OnOk result (notes.new ≡ notes.old ++ faults.agreed t function.now (option_copied first.entry)) }
+    requires { whole ≡ names.is_whole first.now }
+    ensures { OnOk result (notes.new ≡ notes.old ++ faults.agreed t function.now (Some first.now)) }
 {
-    match first {
-        Some(first) => {
-            let well = is_whole(function) && is_whole(first);
-            note_held(t, well, same_types(function, first), notes)
-        }
+    let well = is_whole(function) && whole;
+    note_held(t, well, same_types(function, first), notes)
+}
+
+/// Whether all types of the first declaration of the function of that number are known, as the list says.
+fn is_known(whole: &[bool], number: u32) -> bool
+    ensures { result ≡ unwrap_or (slice_get whole.now number) false }
+{
+    match at(whole, number as usize) {
+        Some(known) => *known,
+        None => false,
+    }
+}
+
+/// Notes a declaration that doesn't agree with the first one of the function of that number. `whole` tells of each function whether all types of its first declaration are known.
+fn note_first(
+    t: u32,
+    function: &Function,
+    functions: &[Function],
+    whole: &[bool],
+    number: u32,
+    notes: &mut Items<Note>,
+) -> Result<(), NoMemory>
+    requires whole { whole.now ≡ map names.is_whole functions.now }
+    ensures { OnOk result (notes.new ≡ notes.old ++ faults.agreed t function.now (slice_get functions.now number)) }
+{
+    match at(functions, number as usize) {
+        Some(first) => note_agreed(t, function, first, is_known(whole, number), notes),
         None => Ok(()),
     }
 }
@@ -88,9 +112,11 @@ fn note_number(
     t: u32,
     function: &Function,
     functions: &[Function],
+    whole: &[bool],
     number: Option<u32>,
     notes: &mut Items<Note>,
 ) -> Result<(), NoMemory>
+    requires whole { whole.now ≡ map names.is_whole functions.now }
     ensures { OnOk result (notes.new ≡ notes.old ++ faults.numbered t function.now functions.now number) }
 {
     let number = match number {
@@ -98,27 +124,7 @@ fn note_number(
         None => return Ok(()),
     };
     notes.push(Note::Means(t, Target::Func(number)))?;
-    note_agreed(t, function, at(functions, number as usize), notes)
-}
-
-/// Whether a typedef has the name.
-fn has_alias(name: &[u8], before: &Before) -> bool
-    ensures { result ≡ scopes.is_alias before.now name.now }
-{
-    match alias_in(name, before.aliases.as_slice()) {
-        Some(_) => true,
-        None => false,
-    }
-}
-
-/// Whether a global has the name.
-pub fn has_global(name: &[u8], before: &Before) -> bool
-    ensures { result ≡ is_some (scopes.variable_in name.now (before.now).globals) }
-{
-    match variable_in(name, before.globals.as_slice()) {
-        Some(_) => true,
-        None => false,
-    }
+    note_first(t, function, functions, whole, number, notes)
 }
 
 impl View<'_> {
@@ -134,35 +140,17 @@ impl View<'_> {
         ensures { OnOk result (notes.new ≡ notes.old ++ faults.function_notes (text_at self.now.source.now self.now.tokens.now) self.now.file.now self.now.before.now t gives function.now again) }
     {
         let name = function.name.as_slice();
-        let functions = self.file.functions.as_slice();
-        let other = has_alias(name, self.before) || has_global(name, self.before);
+        let other = self.before.is_alias(name) || self.before.has_global(name);
         note_result(gives, &function.result, notes)?;
         note_no_struct(t, &function.result, notes)?;
-        note_number(t, function, functions, function_in(name, functions), notes)?;
+        note_number(
+            t,
+            function,
+            self.file.functions.as_slice(),
+            self.names.whole.as_slice(),
+            self.function_named(name),
+            notes,
+        )?;
         note_twice(again || other, t, notes)
-    }
-
-    /// The types of parameters.
-    fn types_of(&self, params: &[Param]) -> Result<Items<Option<CType>>, NoMemory>
-        ensures { IfOk result (λ l. l ≡ scopes.func_params (text_at self.now.source.now self.now.tokens.now) self.now.file.now.tags self.now.before.now params.now) }
-    {
-        let mut types = Items::new(self.alloc);
-        for param in params {
-            types.push(self.param_type(param.ty))?;
-        }
-        Ok(types)
-    }
-
-    /// A function with a body, as it is declared there.
-    pub fn function_of(&self, function: &Func) -> Result<Function, NoMemory>
-        ensures { IfOk result (λ f. f ≡ faults.function_of (text_at self.now.source.now self.now.tokens.now) self.now.file.now self.now.before.now function.now) }
-    {
-        let name = Items::from_slice(self.alloc, self.text(function.name))?;
-        let params = self.types_of(function.params.as_slice())?;
-        Ok(Function {
-            name,
-            result: self.result_type(function.result),
-            params,
-        })
     }
 }

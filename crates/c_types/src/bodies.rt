@@ -11,6 +11,7 @@ ghost use Rattle.c_types.specs.Places.{place, Leads};
 use crate::calls::note_rule;
 use crate::inside::Inside;
 use crate::view::View;
+use c_names::Named;
 use cc_model::base::NoMemory;
 use cc_model::trees::{Base, Declarator, Declared, Func, Head, Initializer, Param, Part, Simple};
 use cc_model::typing::{CType, Note, Variable};
@@ -44,7 +45,7 @@ impl View<'_> {
 
 impl Body<'_> {
     /// What is seen with these variables around.
-    fn with_scopes<'b>(&'b self, scopes: &'b [Items<Variable>]) -> View<'b>
+    fn with_scopes<'b>(&'b self, scopes: &'b [Named<Variable>]) -> View<'b>
         ensures source { result.source.now ≡ self.now.view.source.now }
         ensures tokens { result.tokens.now ≡ self.now.view.tokens.now }
         ensures file { result.file.now ≡ self.now.view.file.now }
@@ -56,6 +57,7 @@ impl Body<'_> {
             source: self.view.source,
             tokens: self.view.tokens,
             file: self.view.file,
+            names: self.view.names,
             before: self.view.before,
             scopes,
         }

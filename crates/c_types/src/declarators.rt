@@ -8,9 +8,10 @@ ghost use Rattle.cc_model.specs.Faults as faults;
 ghost use Rattle.c_types.specs.Views.{here_at};
 
 use crate::made::{note_size, note_unknown};
-use crate::names::{alias_in, variable_in};
+use crate::names::variable_in;
 use crate::types::copy;
 use crate::view::View;
+use c_names::Named;
 use cc_model::Target;
 use cc_model::base::NoMemory;
 use cc_model::trees::{Base, Declarator, Length};
@@ -74,12 +75,12 @@ pub fn note_declared(
 }
 
 /// Whether the innermost scope has a variable of that name.
-fn in_scope(name: &[u8], around: &[Items<Variable>]) -> bool
+fn in_scope(name: &[u8], around: &[Named<Variable>]) -> bool
     ensures { result ≡ faults.in_scope name.now around.now }
 {
     match around {
         [] => false,
-        [scope] => match variable_in(name, scope.as_slice()) {
+        [scope] => match variable_in(name, scope) {
             Some(_) => true,
             None => false,
         },
@@ -92,10 +93,7 @@ impl View<'_> {
     pub fn is_alias(&self, t: u32) -> bool
         ensures { result ≡ scopes.is_alias self.now.before.now ((text_at self.now.source.now self.now.tokens.now) t) }
     {
-        match alias_in(self.text(t), self.before.aliases.as_slice()) {
-            Some(_) => true,
-            None => false,
-        }
+        self.before.is_alias(self.text(t))
     }
 
     /// Whether the innermost scope has the name already, or it is that of a typedef.

@@ -6,16 +6,16 @@ ghost use Rattle.cc_model.specs.declared.trees.Item.TheVariants as some_item;
 ghost use Rattle.cc_model.specs.Source.{text_at};
 ghost use Rattle.cc_model.specs.Scopes as scopes;
 
-use crate::before::nothing_before;
+use crate::file_names::tag_index;
 use crate::members::fields_size;
-use crate::names::has_name;
 use crate::type_names::{TypeNames, copy_text, narrow};
+use c_names::{Preceding, TagIndex};
 use cc_model::Token;
 use cc_model::base::NoMemory;
 use cc_model::trees::{
     Base, Declarator, Field, Func, Item, Param, ProtoParam, ResultType, StructDef,
 };
-use cc_model::typing::{Before, CType, File, Function, Member, Text};
+use cc_model::typing::{CType, File, Function, Member, Text};
 use sqlite_items::Items;
 use std::alloc::Global;
 
@@ -107,7 +107,7 @@ impl TypeNames<'_> {
     /// A field.
     fn field(
         &self,
-        before: &Before,
+        before: &Preceding,
         base: Base,
         declarator: &Declarator,
     ) -> Result<Member, NoMemory>
@@ -121,7 +121,7 @@ impl TypeNames<'_> {
     /// Adds the fields of a line.
     fn add_line(
         &self,
-        before: &Before,
+        before: &Preceding,
         base: Base,
         parts: &[Declarator],
         fields: &mut Items<Member>,
@@ -136,7 +136,7 @@ impl TypeNames<'_> {
     }
 
     /// The fields of a struct.
-    fn fields(&self, before: &Before, lines: &[Field]) -> Result<Items<Member>, NoMemory>
+    fn fields(&self, before: &Preceding, lines: &[Field]) -> Result<Items<Member>, NoMemory>
         ensures { IfOk result (λ l. l ≡ scopes.fields_of (text_at self.now.source.now self.now.tokens.now) self.now.tags.now before.now lines.now) }
     {
         let mut fields = Items::new(self.alloc);
@@ -149,7 +149,7 @@ impl TypeNames<'_> {
     /// Adds the fields of a struct.
     fn add_fields(
         &self,
-        before: &Before,
+        before: &Preceding,
         definition: &StructDef,
         structs: &mut Items<Items<Member>>,
     ) -> Result<(), NoMemory>
@@ -171,7 +171,7 @@ impl TypeNames<'_> {
     /// Adds the struct that an item defines.
     fn add_struct(
         &self,
-        before: &Before,
+        before: &Preceding,
         item: &Item,
         structs: &mut Items<Items<Member>>,
     ) -> Result<(), NoMemory>
@@ -188,7 +188,7 @@ impl TypeNames<'_> {
     /// The types of the parameters of a function with a body.
     fn func_params(
         &self,
-        before: &Before,
+        before: &Preceding,
         params: &[Param],
     ) -> Result<Items<Option<CType>>, NoMemory>
         ensures { IfOk result (λ l. l ≡ scopes.func_params (text_at self.now.source.now self.now.tokens.now) self.now.tags.now before.now params.now) }
@@ -203,7 +203,7 @@ impl TypeNames<'_> {
     /// The types of the parameters of a prototype.
     fn proto_params(
         &self,
-        before: &Before,
+        before: &Preceding,
         params: &[ProtoParam],
     ) -> Result<Items<Option<CType>>, NoMemory>
         ensures { IfOk result (λ l. l ≡ scopes.proto_params (text_at self.now.source.now self.now.tokens.now) self.now.tags.now before.now params.now) }
@@ -216,7 +216,7 @@ impl TypeNames<'_> {
     }
 
     /// A function as its definition says.
-    pub fn function_of(&self, before: &Before, function: &Func) -> Result<Function, NoMemory>
+    pub fn function_of(&self, before: &Preceding, function: &Func) -> Result<Function, NoMemory>
         ensures { IfOk result (λ f. f ≡ record {
           name = text_at self.now.source.now self.now.tokens.now (function.now).name;
           result = scopes.result_type (text_at self.now.source.now self.now.tokens.now) self.now.tags.now before.now (function.now).result;
@@ -235,7 +235,7 @@ impl TypeNames<'_> {
     /// A function as its prototype says.
     pub fn prototype_of(
         &self,
-        before: &Before,
+        before: &Preceding,
         gives: ResultType,
         name: u32,
         params: &[ProtoParam],
@@ -258,13 +258,13 @@ impl TypeNames<'_> {
     /// Adds a function, where it is declared first.
     fn add_first(
         &self,
-        before: &Before,
+        before: &Preceding,
         function: Function,
         functions: &mut Items<Function>,
     ) -> Result<(), NoMemory>
         ensures { OnOk result (functions.new ≡ functions.old ++ scopes.if_first (text_at self.now.source.now self.now.tokens.now) self.now.tags.now before.now function []) }
     {
-        if !has_name(function.name.as_slice(), before.functions.as_slice()) {
+        if !before.has_function(function.name.as_slice()) {
             functions.push(function)?;
         }
         Ok(())
@@ -273,7 +273,7 @@ impl TypeNames<'_> {
     /// Adds the function that an item declares first.
     fn add_function(
         &self,
-        before: &Before,
+        before: &Preceding,
         item: &Item,
         functions: &mut Items<Function>,
     ) -> Result<(), NoMemory>
@@ -293,6 +293,25 @@ impl TypeNames<'_> {
     }
 }
 
+impl TypeNames<'_> {
+    /// Adds what an item declares, and stands behind it afterwards.
+    fn gather_item(
+        &self,
+        before: &mut Preceding,
+        item: &Item,
+        structs: &mut Items<Items<Member>>,
+        functions: &mut Items<Function>,
+    ) -> Result<(), NoMemory>
+        ensures structs { OnOk result (structs.new ≡ structs.old ++ scopes.structs_in (text_at self.now.source.now self.now.tokens.now) self.now.tags.now before.old (item.now ∷ [])) }
+        ensures functions { OnOk result (functions.new ≡ functions.old ++ scopes.functions_in (text_at self.now.source.now self.now.tokens.now) self.now.tags.now before.old (item.now ∷ [])) }
+        ensures before { OnOk result (before.new ≡ scopes.after_item (text_at self.now.source.now self.now.tokens.now) self.now.tags.now before.old item.now) }
+    {
+        self.add_struct(&*before, item, structs)?;
+        self.add_function(&*before, item, functions)?;
+        self.pass(before, item)
+    }
+}
+
 /// What a walk over items gathers.
 #[derive(Drop)]
 struct Gathered {
@@ -302,11 +321,11 @@ struct Gathered {
 }
 
 /// What items declare, where their structs have these tags.
-fn gather(
+fn walk(
     alloc: Global,
     source: &[u8],
     tokens: &[Token],
-    tags: &Items<Option<Text>>,
+    tags: &TagIndex,
     items: &[Item],
 ) -> Result<Gathered, NoMemory>
     ensures bodies { IfOk result (λ g. g.bodies ≡ (scopes.after_items (text_at source.now tokens.now) tags.now scopes.nothing_before items.now).bodies) }
@@ -314,26 +333,41 @@ fn gather(
     ensures functions { IfOk result (λ g. g.functions ≡ scopes.functions_in (text_at source.now tokens.now) tags.now scopes.nothing_before items.now) }
     ensures few_tags { OnOk result (length tags.now < 2 ^ 32) }
 {
-    narrow(tags.len())?;
+    narrow(tags.as_slice().len())?;
     let names = TypeNames {
         alloc,
         source,
         tokens,
         tags,
     };
-    let mut before = nothing_before(alloc);
+    let mut before = Preceding::nothing(alloc);
     let mut structs = Items::new(alloc);
     let mut functions = Items::new(alloc);
     for item in items {
-        names.add_struct(&before, item, &mut structs)?;
-        names.add_function(&before, item, &mut functions)?;
-        names.pass(&mut before, item)?;
+        names.gather_item(&mut before, item, &mut structs, &mut functions)?;
     }
     Ok(Gathered {
         structs,
         functions,
-        bodies: before.bodies,
+        bodies: before.into_bodies(),
     })
+}
+
+/// What items declare, where their structs have these tags.
+fn gather(
+    alloc: Global,
+    source: &[u8],
+    tokens: &[Token],
+    tags: &[Option<Text>],
+    items: &[Item],
+) -> Result<Gathered, NoMemory>
+    ensures bodies { IfOk result (λ g. g.bodies ≡ (scopes.after_items (text_at source.now tokens.now) tags.now scopes.nothing_before items.now).bodies) }
+    ensures structs { IfOk result (λ g. g.structs ≡ scopes.structs_in (text_at source.now tokens.now) tags.now scopes.nothing_before items.now) }
+    ensures functions { IfOk result (λ g. g.functions ≡ scopes.functions_in (text_at source.now tokens.now) tags.now scopes.nothing_before items.now) }
+    ensures few_tags { OnOk result (length tags.now < 2 ^ 32) }
+{
+    let index = tag_index(alloc, tags)?;
+    walk(alloc, source, tokens, &index, items)
 }
 
 /// What a file declares. No memory, too, where it declares 2^32 tags or functions, which no source does.
@@ -352,7 +386,7 @@ pub fn file_of(
         structs,
         functions,
         bodies,
-    } = gather(alloc, source, tokens, &tags, items)?;
+    } = gather(alloc, source, tokens, tags.as_slice(), items)?;
     narrow(functions.len())?;
     let sizes = sizes_of(alloc, structs.as_slice())?;
     Ok(File {

@@ -6,21 +6,20 @@ ghost use Rattle.cc_model.specs.Source.{text_at};
 ghost use Rattle.cc_model.specs.Scopes as scopes;
 ghost use Rattle.cc_model.specs.Faults as faults;
 
-use crate::agreement::has_global;
 use crate::before::pass_global;
 use crate::calls::note_rule;
 use crate::declarators::{note_declared, note_lengths, note_twice};
 use crate::made::{note_unknown, number_shape};
-use crate::names::has_name;
 use crate::shapes::takes;
 use crate::sources::Sources;
 use crate::statements::is_scalar;
 use crate::types::int_type;
 use crate::view::View;
+use c_names::Preceding;
 use cc_model::Target;
 use cc_model::base::NoMemory;
 use cc_model::trees::{Base, GlobalPart, GlobalStart, StartValue};
-use cc_model::typing::{Before, CType, Note, Shape, Variable};
+use cc_model::typing::{CType, Note, Shape, Variable};
 use sqlite_items::Items;
 
 /// How many globals there are. No memory, too, where there are 2^32 of them, which no source declares.
@@ -41,8 +40,7 @@ impl View<'_> {
         ensures { result ≡ scopes.is_taken self.now.before.now ((text_at self.now.source.now self.now.tokens.now) t) }
     {
         let name = self.text(t);
-        self.is_alias(t)
-            || (has_global(name, self.before) || has_name(name, self.before.functions.as_slice()))
+        self.is_alias(t) || (self.before.has_global(name) || self.before.has_function(name))
     }
 
     /// What a start value is.
@@ -112,7 +110,7 @@ impl View<'_> {
     ) -> Result<(), NoMemory>
         ensures { OnOk result (notes.new ≡ notes.old ++ faults.global_notes (text_at self.now.source.now self.now.tokens.now) self.now.file.now self.now.before.now base part.now (scopes.global_of (text_at self.now.source.now self.now.tokens.now) self.now.file.now.tags self.now.before.now base part.now)) }
     {
-        let number = count(self.before.globals.as_slice())?;
+        let number = count(self.before.globals())?;
         let ty = self.declared_type(base, &part.declarator)?;
         self.note_global(number, base, part, &ty, notes)
     }
@@ -124,7 +122,7 @@ impl Sources<'_> {
         &self,
         base: Base,
         parts: &[GlobalPart],
-        before: &mut Before,
+        before: &mut Preceding,
         notes: &mut Items<Note>,
     ) -> Result<(), NoMemory>
         ensures notes { OnOk result (notes.new ≡ notes.old ++ faults.globals_notes (text_at self.now.source.now self.now.tokens.now) self.now.file.now before.old base parts.now) }
@@ -136,6 +134,7 @@ impl Sources<'_> {
                 source: self.source,
                 tokens: self.tokens,
                 file: self.file,
+                names: self.names,
                 before: &*before,
                 scopes: &[],
             };
@@ -144,7 +143,7 @@ impl Sources<'_> {
                 self.alloc,
                 self.source,
                 self.tokens,
-                &self.file.tags,
+                self.tags(),
                 before,
                 base,
                 part,

@@ -5,6 +5,7 @@ ghost use Rattle.cc_model.specs.Faults as faults;
 ghost use Rattle.c_types.specs.Places.{place, outside};
 
 use crate::types::copy;
+use c_names::Named;
 use cc_model::Target;
 use cc_model::base::NoMemory;
 use cc_model::typing::{CType, Variable};
@@ -14,7 +15,7 @@ use std::alloc::Global;
 /// A place of a function: the variables of each scope around, the innermost scope last; the number of the next local; whether a loop is around.
 #[derive(Drop)]
 pub struct Inside {
-    pub scopes: Items<Items<Variable>>,
+    pub scopes: Items<Named<Variable>>,
     pub next: u32,
     pub in_loop: bool,
 }
@@ -44,14 +45,18 @@ fn variable(
 }
 
 /// Puts a variable into the innermost scope.
-fn put(scopes: &mut Items<Items<Variable>>, variable: Variable) -> Result<(), NoMemory>
+fn put(
+    alloc: Global,
+    scopes: &mut Items<Named<Variable>>,
+    variable: Variable,
+) -> Result<(), NoMemory>
     ensures { OnOk result (scopes.new ≡ faults.with_variable variable scopes.old) }
 {
     let mut scope = match scopes.pop() {
         Some(scope) => scope,
         None => return Ok(()),
     };
-    scope.push(variable)?;
+    scope.push(alloc, variable)?;
     scopes.push(scope)?;
     Ok(())
 }
@@ -73,7 +78,7 @@ impl Inside {
         ensures { IfOk result (λ i. place i ≡ faults.at_body) }
     {
         let mut scopes = Items::new(alloc);
-        scopes.push(Items::new(alloc))?;
+        scopes.push(Named::new(alloc))?;
         Ok(Inside {
             scopes,
             next: 0,
@@ -85,7 +90,7 @@ impl Inside {
     pub fn open(&mut self, alloc: Global) -> Result<(), NoMemory>
         ensures { OnOk result (place self.new ≡ faults.opened (place self.old)) }
     {
-        self.scopes.push(Items::new(alloc))?;
+        self.scopes.push(Named::new(alloc))?;
         Ok(())
     }
 
@@ -107,7 +112,7 @@ impl Inside {
     {
         let next = number_behind(self.next)?;
         let variable = variable(alloc, name, ty, Target::Local(self.next))?;
-        put(&mut self.scopes, variable)?;
+        put(alloc, &mut self.scopes, variable)?;
         self.next = next;
         Ok(())
     }

@@ -6,15 +6,16 @@ ghost use Rattle.cc_model.specs.Scopes as scopes;
 ghost use Rattle.cc_model.specs.Faults as faults;
 ghost use Rattle.c_types.specs.Apart.{apart};
 
-use crate::before::{nothing_before, pass};
+use crate::before::pass;
 use crate::declarators::note_twice;
-use crate::names::has_name;
+use crate::file_names::file_names;
 use crate::sources::Sources;
 use crate::view::View;
+use c_names::Preceding;
 use cc_model::Token;
 use cc_model::base::NoMemory;
 use cc_model::trees::{Func, Item, ProtoParam, ResultType};
-use cc_model::typing::{Before, File, Note, Wrong};
+use cc_model::typing::{File, Note, Wrong};
 use sqlite_items::Items;
 use std::alloc::Global;
 
@@ -42,7 +43,7 @@ impl View<'_> {
     fn has_body(&self, name: u32) -> bool
         ensures { result ≡ scopes.has_name ((text_at self.now.source.now self.now.tokens.now) name) self.now.before.now.bodies }
     {
-        has_name(self.text(name), self.before.bodies.as_slice())
+        self.before.has_body(self.text(name))
     }
 
     /// A function with a body.
@@ -91,7 +92,7 @@ impl Sources<'_> {
     fn item(
         &self,
         item: &Item,
-        before: &mut Before,
+        before: &mut Preceding,
         notes: &mut Items<Note>,
     ) -> Result<(), NoMemory>
         ensures notes { OnOk result (notes.new ≡ notes.old ++ faults.item_notes (text_at self.now.source.now self.now.tokens.now) self.now.file.now (faults.part_of (text_at self.now.source.now self.now.tokens.now) self.now.file.now) before.old item.now) }
@@ -105,6 +106,7 @@ impl Sources<'_> {
             source: self.source,
             tokens: self.tokens,
             file: self.file,
+            names: self.names,
             before: &*before,
             scopes: &[],
         };
@@ -113,7 +115,7 @@ impl Sources<'_> {
             self.alloc,
             self.source,
             self.tokens,
-            &self.file.tags,
+            self.tags(),
             before,
             item,
         )
@@ -123,7 +125,7 @@ impl Sources<'_> {
     fn items(&self, items: &[Item], notes: &mut Items<Note>) -> Result<(), NoMemory>
         ensures { OnOk result (notes.new ≡ notes.old ++ faults.items_notes (text_at self.now.source.now self.now.tokens.now) self.now.file.now (faults.part_of (text_at self.now.source.now self.now.tokens.now) self.now.file.now) scopes.nothing_before items.now) }
     {
-        let mut before = nothing_before(self.alloc);
+        let mut before = Preceding::nothing(self.alloc);
         for item in items {
             self.item(item, &mut before, notes)?;
         }
@@ -144,11 +146,13 @@ pub fn items(
     requires few_functions { length (file.now).functions < 2 ^ 32 }
     ensures { OnOk result (notes.new ≡ notes.old ++ faults.items_notes (text_at source.now tokens.now) file.now (faults.part_of (text_at source.now tokens.now) file.now) scopes.nothing_before items.now) }
 {
+    let names = file_names(alloc, file)?;
     let sources = Sources {
         alloc,
         source,
         tokens,
         file,
+        names: &names,
     };
     sources.items(items, notes)
 }

@@ -9,6 +9,7 @@ mod checker;
 mod declarators;
 mod declared;
 mod file;
+mod file_names;
 mod functions;
 mod globals;
 mod inside;

@@ -9,17 +9,19 @@ ghost use Rattle.cc_model.specs.CheckedProgram as checked;
 ghost use Rattle.c_types.specs.declared.locals.Locals.{Locals as BodyLocals};
 ghost use Rattle.c_types.specs.BodyLocals as among;
 
-use crate::before::{nothing_before, pass};
+use crate::before::pass;
 use crate::declared::declared_types;
+use crate::file_names::file_names;
 use crate::sources::Sources;
 use crate::type_names::token_text;
 use crate::types::copy;
 use crate::view::View;
+use c_names::{NameIndex, Preceding};
 use cc_model::Token;
 use cc_model::base::NoMemory;
 use cc_model::trees::{Func, Item};
-use cc_model::typing::{Before, CType, File};
-use sqlite_items::Items;
+use cc_model::typing::{CType, File};
+use sqlite_items::{Items, at};
 use std::alloc::Global;
 
 /// A function with a body: the token of its name, and the types of its parameters and then of its declarators.
@@ -41,25 +43,44 @@ fn copy_all(alloc: Global, types: &[CType]) -> Result<Items<CType>, NoMemory>
 }
 
 impl Sources<'_> {
-    /// Whether a function with a body has that name.
-    fn is_named(&self, name: &[u8], body: &Locals) -> bool
-        ensures { result ≡ bytes_eq (text_at self.now.source.now self.now.tokens.now body.now.name) name.now }
+    /// The names of functions with a body.
+    fn names_of(&self, bodies: &[Locals]) -> Result<NameIndex, NoMemory>
+        ensures { IfOk result (λ l. l ≡ map (λ (b : BodyLocals). text_at self.now.source.now self.now.tokens.now b.name) bodies.now) }
     {
-        token_text(self.source, self.tokens, body.name) == name
+        let mut names = NameIndex::new(self.alloc);
+        for body in bodies {
+            names.add(token_text(self.source, self.tokens, body.name))?;
+        }
+        Ok(names)
     }
 
-    /// The first function of that name with a body.
-    fn first_named<'a>(&self, name: &[u8], bodies: &'a [Locals]) -> Option<&'a Locals>
+    /// The first function of that name with a body; `names` are those of the bodies.
+    fn first_named<'a>(
+        &self,
+        name: &[u8],
+        names: &NameIndex,
+        bodies: &'a [Locals],
+    ) -> Option<&'a Locals>
+        requires named { names.now ≡ map (λ (b : BodyLocals). text_at self.now.source.now self.now.tokens.now b.name) bodies.now }
         ensures { option_copied result ≡ find (λ (b : BodyLocals). bytes_eq (text_at self.now.source.now self.now.tokens.now b.name) name.now) bodies.now }
     {
-        bodies.iter().find(|body| self.is_named(name, body))
+        match names.position(name) {
+            Some(place) => at(bodies, place),
+            None => None,
+        }
     }
 
-    /// The types of the locals of the function of that name.
-    fn locals_named(&self, name: &[u8], bodies: &[Locals]) -> Result<Items<CType>, NoMemory>
+    /// The types of the locals of the function of that name; `names` are those of the bodies.
+    fn locals_named(
+        &self,
+        name: &[u8],
+        names: &NameIndex,
+        bodies: &[Locals],
+    ) -> Result<Items<CType>, NoMemory>
+        requires named { names.now ≡ map (λ (b : BodyLocals). text_at self.now.source.now self.now.tokens.now b.name) bodies.now }
         ensures { IfOk result (λ l. l ≡ among.locals_named (text_at self.now.source.now self.now.tokens.now) name.now bodies.now) }
     {
-        match self.first_named(name, bodies) {
+        match self.first_named(name, names, bodies) {
             Some(body) => copy_all(self.alloc, body.types.as_slice()),
             None => Ok(Items::new(self.alloc)),
         }
@@ -69,16 +90,17 @@ impl Sources<'_> {
     fn locals_by(&self, bodies: &[Locals]) -> Result<Items<Items<CType>>, NoMemory>
         ensures { IfOk result (λ l. l ≡ map (λ (f : Function). among.locals_named (text_at self.now.source.now self.now.tokens.now) f.name bodies.now) self.now.file.now.functions) }
     {
+        let names = self.names_of(bodies)?;
         let mut locals = Items::new(self.alloc);
         for function in self.file.functions.as_slice() {
-            let types = self.locals_named(function.name.as_slice(), bodies)?;
+            let types = self.locals_named(function.name.as_slice(), &names, bodies)?;
             locals.push(types)?;
         }
         Ok(locals)
     }
 
     /// The types of the locals of a function with a body.
-    fn locals_in(&self, before: &Before, function: &Func) -> Result<Items<CType>, NoMemory>
+    fn locals_in(&self, before: &Preceding, function: &Func) -> Result<Items<CType>, NoMemory>
         ensures { IfOk result (λ l. l ≡ checked.declared_types (checked.body_notes (text_at self.now.source.now self.now.tokens.now) self.now.file.now before.now function.now)) }
     {
         let view = View {
@@ -86,6 +108,7 @@ impl Sources<'_> {
             source: self.source,
             tokens: self.tokens,
             file: self.file,
+            names: self.names,
             before,
             scopes: &[],
         };
@@ -98,7 +121,7 @@ impl Sources<'_> {
     /// Adds the locals of an item that is a function with a body.
     fn add_body(
         &self,
-        before: &Before,
+        before: &Preceding,
         item: &Item,
         bodies: &mut Items<Locals>,
     ) -> Result<(), NoMemory>
@@ -115,22 +138,35 @@ impl Sources<'_> {
         }
     }
 
+    /// Adds the locals of an item, and stands behind it afterwards.
+    fn pass_body(
+        &self,
+        before: &mut Preceding,
+        item: &Item,
+        bodies: &mut Items<Locals>,
+    ) -> Result<(), NoMemory>
+        ensures bodies { OnOk result (bodies.new ≡ bodies.old ++ among.bodies_in (text_at self.now.source.now self.now.tokens.now) self.now.file.now before.old (item.now ∷ [])) }
+        ensures before { OnOk result (before.new ≡ scopes.after_item (text_at self.now.source.now self.now.tokens.now) self.now.file.now.tags before.old item.now) }
+    {
+        self.add_body(&*before, item, bodies)?;
+        pass(
+            self.alloc,
+            self.source,
+            self.tokens,
+            self.tags(),
+            before,
+            item,
+        )
+    }
+
     /// The functions with a body, in order.
     fn bodies(&self, items: &[Item]) -> Result<Items<Locals>, NoMemory>
         ensures { IfOk result (λ l. l ≡ among.bodies_in (text_at self.now.source.now self.now.tokens.now) self.now.file.now scopes.nothing_before items.now) }
     {
-        let mut before = nothing_before(self.alloc);
+        let mut before = Preceding::nothing(self.alloc);
         let mut bodies = Items::new(self.alloc);
         for item in items {
-            self.add_body(&before, item, &mut bodies)?;
-            pass(
-                self.alloc,
-                self.source,
-                self.tokens,
-                &self.file.tags,
-                &mut before,
-                item,
-            )?;
+            self.pass_body(&mut before, item, &mut bodies)?;
         }
         Ok(bodies)
     }
@@ -148,11 +184,13 @@ pub fn locals_of(
     requires few_functions { length (file.now).functions < 2 ^ 32 }
     ensures { IfOk result (λ l. l ≡ map (λ (f : Function). checked.slots_in (text_at source.now tokens.now) file.now scopes.nothing_before f.name items.now) (file.now).functions) }
 {
+    let names = file_names(alloc, file)?;
     let sources = Sources {
         alloc,
         source,
         tokens,
         file,
+        names: &names,
     };
     let bodies = sources.bodies(items)?;
     sources.locals_by(bodies.as_slice())

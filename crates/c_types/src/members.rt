@@ -1,14 +1,13 @@
 //! The rule of `.` and `->`.
 
-ghost use Rattle.std.specs.Prelude.{◌≡◌, ◌++◌, take, slice_get, unwrap_or, [], length, IfOk};
-ghost use Rattle.std.specs.Option.{option_copied};
+ghost use Rattle.std.specs.Prelude.{◌≡◌, ◌+◌, ◌<◌, take, slice_get, unwrap_or, [], length, IfOk, IfSome};
 ghost use Rattle.cc_model.specs.Source.{text_at};
 ghost use Rattle.cc_model.specs.Scopes as scopes;
+ghost use Rattle.cc_model.specs.Types.{up_to_257};
 ghost use Rattle.cc_model.specs.Typing as typing;
 ghost use Rattle.c_types.specs.Telling.{answer, told};
 ghost use Rattle.c_types.specs.Views.{seen};
 
-use crate::names::field_in;
 use crate::rules::ending;
 use crate::types::{copy, size_of, up_to_257};
 use crate::view::View;
@@ -48,38 +47,102 @@ fn field_size(sizes: &[u32], member: &Member) -> u32
     }
 }
 
+/// The size of fields and of one more, where one above 256 is told as 257.
+pub fn with_field(sizes: &[u32], size: u32, member: &Member) -> u32
+    ensures { result ≡ up_to_257 (size + scopes.field_size sizes.now member.now) }
+{
+    up_to_257(u64::from(size) + u64::from(field_size(sizes, member)))
+}
+
 /// The size of fields, where one above 256 is told as 257.
 pub fn fields_size(sizes: &[u32], members: &[Member]) -> u32
     ensures { result ≡ scopes.fields_size sizes.now members.now }
 {
     let mut size = 0;
     for member in members {
-        size = up_to_257(u64::from(size) + u64::from(field_size(sizes, member)));
+        size = with_field(sizes, size, member);
     }
     size
 }
 
+/// The offsets at a number; none where there are none.
+fn offsets_at(offsets: &[Items<u32>], number: u32) -> &[u32]
+    ensures { result.now ≡ unwrap_or (slice_get offsets.now number) [] }
+{
+    match at(offsets, number as usize) {
+        Some(offsets) => offsets.as_slice(),
+        None => &[],
+    }
+}
+
+/// The offset at a place of those at a number; 0 where there is none.
+fn offset_in(offsets: &[Items<u32>], number: u32, place: usize) -> u32
+    ensures { result ≡ unwrap_or (slice_get (unwrap_or (slice_get offsets.now number) []) place) 0 }
+{
+    match at(offsets_at(offsets, number), place) {
+        Some(offset) => *offset,
+        None => 0,
+    }
+}
+
 impl View<'_> {
+    /// The fields of a struct; none where there is no such struct.
+    fn fields_at(&self, number: u32) -> &[Member]
+        ensures { result.now ≡ unwrap_or (slice_get self.now.file.now.structs number) [] }
+    {
+        match at(self.file.structs.as_slice(), number as usize) {
+            Some(members) => members.as_slice(),
+            None => &[],
+        }
+    }
+
+    /// Where the field of that name is found among those of a struct.
+    fn field_found(&self, number: u32, name: &[u8]) -> Option<usize>
+        ensures { result ≡ scopes.field_in name.now (unwrap_or (slice_get self.now.file.now.structs number) []) }
+    {
+        match at(self.names.fields.as_slice(), number as usize) {
+            Some(names) => names.position(name),
+            None => None,
+        }
+    }
+
+    /// Where the field of that name stands among those of a struct.
+    fn field_place(&self, number: u32, name: &[u8]) -> Option<usize>
+        ensures value { result ≡ scopes.field_in name.now (unwrap_or (slice_get self.now.file.now.structs number) []) }
+        ensures within { IfSome result (λ k. k < length (unwrap_or (slice_get self.now.file.now.structs number) [])) }
+    {
+        self.field_found(number, name)
+    }
+
+    /// The offset in cells of the field that stands there in a struct.
+    fn offset_at(&self, number: u32, place: usize) -> u32
+        requires { place < length (unwrap_or (slice_get self.now.file.now.structs number) []) }
+        ensures { result ≡ scopes.fields_size self.now.file.now.sizes (take place (unwrap_or (slice_get self.now.file.now.structs number) [])) }
+    {
+        offset_in(self.names.offsets.as_slice(), number, place)
+    }
+
     /// The field of that name among those of a struct.
     fn member_of(
         &self,
         t: u32,
         name: u32,
-        members: &[Member],
+        number: u32,
         notes: &mut Items<Note>,
     ) -> Result<Shape, NoMemory>
-        ensures { IfOk result (λ s. told (typing.member_at (text_at self.now.source.now self.now.tokens.now) (seen self.now.file.now self.now.before.now self.now.scopes.now) 0 t name members.now
-            (scopes.field_in (text_at self.now.source.now self.now.tokens.now name) members.now) notes.old) ≡ answer s notes.new) }
+        ensures { IfOk result (λ s. told (typing.member_at (text_at self.now.source.now self.now.tokens.now) (seen self.now.file.now self.now.before.now self.now.scopes.now) 0 t name (unwrap_or (slice_get self.now.file.now.structs number) [])
+            (scopes.field_in (text_at self.now.source.now self.now.tokens.now name) (unwrap_or (slice_get self.now.file.now.structs number) [])) notes.old) ≡ answer s notes.new) }
     {
-        let number = match field_in(self.text(name), members) {
-            Some(number) => number,
+        let place = match self.field_place(number, self.text(name)) {
+            Some(place) => place,
             None => {
                 notes.push(Note::Fault(Wrong::Unknown, name))?;
                 return Ok(Shape::Unclear);
             }
         };
-        let offset = fields_size(self.file.sizes.as_slice(), &members[..number]);
-        member_typed(self.alloc, t, name, offset, &members[number].ty, notes)
+        let offset = self.offset_at(number, place);
+        let members = self.fields_at(number);
+        member_typed(self.alloc, t, name, offset, &members[place].ty, notes)
     }
 
     /// `.` and `->`: the field of that name of a struct; where there is no struct, the rule of the operator fails.
@@ -93,13 +156,9 @@ impl View<'_> {
     ) -> Result<Shape, NoMemory>
         ensures { IfOk result (λ s. told (typing.member (text_at self.now.source.now self.now.tokens.now) (seen self.now.file.now self.now.before.now self.now.scopes.now) 0 t name well number notes.old) ≡ answer s notes.new) }
     {
-        let number = match number {
-            Some(number) => number,
-            None => return ending(self.alloc, t, well, false, Shape::Unclear, notes),
-        };
-        match at(self.file.structs.as_slice(), number as usize) {
-            Some(members) => self.member_of(t, name, members.as_slice(), notes),
-            None => self.member_of(t, name, &[], notes),
+        match number {
+            Some(number) => self.member_of(t, name, number, notes),
+            None => ending(self.alloc, t, well, false, Shape::Unclear, notes),
         }
     }
 }

@@ -4,8 +4,8 @@ ghost use Rattle.std.specs.Prelude.{◌≡◌, ◌<◌, ◌^◌, length, slice_r
 ghost use Rattle.std.specs.Option.{option_copied};
 ghost use Rattle.cc_model.specs.Scopes as scopes;
 
-use cc_model::typing::{Alias, Function, Member, Text, Variable};
-use sqlite_items::Items;
+use c_names::{Named, TagIndex};
+use cc_model::typing::{Function, Text, Variable};
 
 /// The bytes from `start` to `end`; those that are there, where the source ends before.
 pub fn cut(source: &[u8], start: usize, end: usize) -> &[u8]
@@ -24,67 +24,34 @@ pub fn cut(source: &[u8], start: usize, end: usize) -> &[u8]
 }
 
 /// The variable of that name.
-pub fn variable_in<'a>(name: &[u8], variables: &'a [Variable]) -> Option<&'a Variable>
+pub fn variable_in<'a>(name: &[u8], variables: &'a Named<Variable>) -> Option<&'a Variable>
     ensures { option_copied result ≡ scopes.variable_in name.now variables.now }
 {
-    variables.iter().find(|v| name == v.name.as_slice())
+    variables.find(name)
 }
 
 /// The variable of that name in the innermost scope that has one.
-pub fn variable_in_scopes<'a>(name: &[u8], around: &'a [Items<Variable>]) -> Option<&'a Variable>
+pub fn variable_in_scopes<'a>(name: &[u8], around: &'a [Named<Variable>]) -> Option<&'a Variable>
     ensures { option_copied result ≡ scopes.variable_in_scopes name.now around.now }
 {
     match around {
         [] => None,
         [scope, rest @ ..] => match variable_in_scopes(name, rest) {
             Some(variable) => Some(variable),
-            None => variable_in(name, scope.as_slice()),
+            None => variable_in(name, scope),
         },
     }
 }
 
-/// The typedef of that name.
-pub fn alias_in<'a>(name: &[u8], aliases: &'a [Alias]) -> Option<&'a Alias>
-    ensures { option_copied result ≡ scopes.alias_in name.now aliases.now }
-{
-    aliases.iter().find(|a| name == a.name.as_slice())
-}
-
-/// Whether the tag has that name.
-fn has_tag(name: &[u8], tag: &Option<Text>) -> bool
-    ensures { result ≡ scopes.has_tag name.now tag.now }
-{
-    match tag {
-        Some(tag) => name == tag.as_slice(),
-        None => false,
-    }
-}
-
-/// Where the tag stands among those.
-fn tag_position(name: &[u8], tags: &[Option<Text>]) -> Option<usize>
-    ensures value { result ≡ scopes.tag_in name.now tags.now }
-    ensures within { IfSome result (λ n. n < length tags.now) }
-{
-    tags.iter().position(|tag| has_tag(name, tag))
-}
-
 /// The number of the struct of that tag.
-pub fn tag_in(name: &[u8], tags: &[Option<Text>]) -> Option<u32>
+pub fn tag_in(name: &[u8], tags: &TagIndex) -> Option<u32>
     requires { length tags.now < 2 ^ 32 }
     ensures { result ≡ scopes.tag_in name.now tags.now }
 {
-    match tag_position(name, tags) {
+    match tags.position(name) {
         Some(number) => Some(number as u32),
         None => None,
     }
-}
-
-/// The number of the field of that name.
-pub fn field_in(name: &[u8], members: &[Member]) -> Option<usize>
-    ensures value { result ≡ scopes.field_in name.now members.now }
-    ensures within { IfSome result (λ n. n < length members.now) }
-{
-    members.iter().position(|m| name == m.name.as_slice())
 }
 
 /// Where the function of that name stands among those.

@@ -9,16 +9,18 @@ ghost use Rattle.c_types.specs.Noted.{Tells};
 ghost use Rattle.c_types.specs.Resolving.{AreRead, IsTested};
 ghost use Rattle.c_types.specs.CheckedTypes.{AreCheckedTypes};
 
-use crate::before::{nothing_before, pass};
+use crate::before::pass;
 use crate::declared::declared_types;
+use crate::file_names::tag_index;
 use crate::locals::locals_of;
 use crate::noted::{Said, gather, names, type_at};
 use crate::numbering::{Numbering, number_types};
 use crate::sites::lines_of;
+use c_names::{Preceding, TagIndex};
 use c_trees::expression_tokens;
 use cc_model::base::NoMemory;
 use cc_model::trees::{Item, Program};
-use cc_model::typing::{Before, CType, File, Note, Text};
+use cc_model::typing::{CType, File, Note, Text};
 use cc_model::{Checked, Site, Token};
 use sqlite_items::Items;
 use std::alloc::Global;
@@ -59,16 +61,30 @@ fn behind(
     alloc: Global,
     source: &[u8],
     tokens: &[Token],
-    tags: &Items<Option<Text>>,
+    tags: &TagIndex,
     items: &[Item],
-) -> Result<Before, NoMemory>
+) -> Result<Preceding, NoMemory>
     ensures { IfOk result (λ b. b ≡ scopes.after_items (text_at source.now tokens.now) tags.now scopes.nothing_before items.now) }
 {
-    let mut before = nothing_before(alloc);
+    let mut before = Preceding::nothing(alloc);
     for item in items {
         pass(alloc, source, tokens, tags, &mut before, item)?;
     }
     Ok(before)
+}
+
+/// What stands behind all items of a file, whose structs have these tags.
+fn behind_all(
+    alloc: Global,
+    source: &[u8],
+    tokens: &[Token],
+    tags: &Items<Option<Text>>,
+    items: &[Item],
+) -> Result<Preceding, NoMemory>
+    ensures { IfOk result (λ b. b ≡ scopes.after_items (text_at source.now tokens.now) tags.now scopes.nothing_before items.now) }
+{
+    let index = tag_index(alloc, tags.as_slice())?;
+    behind(alloc, source, tokens, &index, items)
 }
 
 /// The types of a well typed program by their numbers.
@@ -92,13 +108,13 @@ fn types_by_number(
     let expressions = expression_types(alloc, items, notes, said)?;
     let declarations = declared_types(alloc, notes)?;
     let locals = locals_of(alloc, source, tokens, file, items)?;
-    let before = behind(alloc, source, tokens, &file.tags, items)?;
+    let before = behind_all(alloc, source, tokens, &file.tags, items)?;
     number_types(
         alloc,
         expressions.as_slice(),
         declarations.as_slice(),
         file,
-        before.globals.as_slice(),
+        before.globals(),
         locals.as_slice(),
     )
 }

@@ -13,9 +13,9 @@ ghost use Rattle.cc_model.specs.Faults as faults;
 
 use crate::declarators::{note_declared, note_lengths, note_twice};
 use crate::made::note_unknown;
-use crate::members::fields_size;
-use crate::names::{field_in, tag_in};
+use crate::members::with_field;
 use crate::view::View;
+use c_names::Named;
 use cc_model::Target;
 use cc_model::base::NoMemory;
 use cc_model::trees::{Base, Declarator, Field, StructDef};
@@ -68,31 +68,32 @@ fn name_of_struct(tag: Option<u32>, name: u32) -> u32
 
 impl View<'_> {
     /// Whether an earlier field has the name.
-    fn is_field(&self, name: u32, earlier: &[Member]) -> bool
+    fn is_field(&self, name: u32, earlier: &Named<Member>) -> bool
         ensures { result ≡ is_some (scopes.field_in ((text_at self.now.source.now self.now.tokens.now) name) earlier.now) }
     {
-        match field_in(self.text(name), earlier) {
+        match earlier.find(self.text(name)) {
             Some(_) => true,
             None => false,
         }
     }
 
-    /// The declarator of a field of the type, behind earlier ones.
+    /// The declarator of a field of the type, behind earlier ones of that size.
     fn note_field(
         &self,
         base: Base,
         declarator: &Declarator,
         ty: &Option<CType>,
-        earlier: &[Member],
+        earlier: &Named<Member>,
+        size: u32,
         notes: &mut Items<Note>,
     ) -> Result<(), NoMemory>
+        requires sized { size ≡ scopes.fields_size self.now.file.now.sizes earlier.now }
         ensures { OnOk result (notes.new ≡ notes.old ++ faults.field_notes (text_at self.now.source.now self.now.tokens.now) self.now.file.now self.now.before.now earlier.now base declarator.now ty.now) }
     {
         let sizes = self.file.sizes.as_slice();
-        let offset = fields_size(sizes, earlier);
         note_unknown(ty, base, notes)?;
         note_lengths(declarator.lengths.as_slice(), notes)?;
-        notes.push(Note::Means(declarator.name, Target::Field(offset)))?;
+        notes.push(Note::Means(declarator.name, Target::Field(size)))?;
         note_declared(self.alloc, sizes, declarator.name, ty, notes)?;
         note_twice(
             self.is_field(declarator.name, earlier),
@@ -101,51 +102,65 @@ impl View<'_> {
         )
     }
 
-    /// The declarator of a field, which stands with the earlier ones afterwards.
+    /// The declarator of a field, which stands with the earlier ones afterwards; `size` is theirs.
     fn field(
         &self,
         base: Base,
         declarator: &Declarator,
-        earlier: &mut Items<Member>,
+        earlier: &mut Named<Member>,
+        size: &mut u32,
         notes: &mut Items<Note>,
     ) -> Result<(), NoMemory>
+        requires sized { size.old ≡ scopes.fields_size self.now.file.now.sizes earlier.old }
+        ensures sized { OnOk result (size.new ≡ scopes.fields_size self.now.file.now.sizes earlier.new) }
         ensures notes { OnOk result (notes.new ≡ notes.old ++ faults.field_notes (text_at self.now.source.now self.now.tokens.now) self.now.file.now self.now.before.now earlier.old base declarator.now (scopes.declared_type (text_at self.now.source.now self.now.tokens.now) self.now.file.now.tags self.now.before.now base declarator.now)) }
         ensures member { OnOk result (earlier.new ≡ earlier.old ++ scopes.field_of (text_at self.now.source.now self.now.tokens.now) self.now.file.now.tags self.now.before.now base declarator.now ∷ []) }
     {
         let name = Items::from_slice(self.alloc, self.text(declarator.name))?;
         let ty = self.declared_type(base, declarator)?;
-        self.note_field(base, declarator, &ty, earlier.as_slice(), notes)?;
-        earlier.push(Member { name, ty })?;
-        Ok(())
+        self.note_field(base, declarator, &ty, &*earlier, *size, notes)?;
+        let member = Member { name, ty };
+        *size = with_field(self.file.sizes.as_slice(), *size, &member);
+        earlier.push(self.alloc, member)
     }
 
-    /// The fields of a line, behind earlier ones. `rest` is what is said behind the line.
+    /// The fields of a line, behind earlier ones, whose size `size` is. `rest` is what is said behind the line.
     fn line(
         &self,
         base: Base,
         parts: &[Declarator],
-        earlier: &mut Items<Member>,
+        earlier: &mut Named<Member>,
+        size: &mut u32,
         notes: &mut Items<Note>,
     ) -> Result<(), NoMemory>
+        requires sized { size.old ≡ scopes.fields_size self.now.file.now.sizes earlier.old }
+        ensures sized { OnOk result (size.new ≡ scopes.fields_size self.now.file.now.sizes earlier.new) }
         ensures notes { OnOk result ((rest : List DeclaredMember → List DeclaredNote) → notes.new ++ rest earlier.new ≡ notes.old ++ faults.line_notes (text_at self.now.source.now self.now.tokens.now) self.now.file.now self.now.before.now earlier.old base parts.now rest) }
         ensures members { OnOk result (earlier.new ≡ earlier.old ++ map (scopes.field_of (text_at self.now.source.now self.now.tokens.now) self.now.file.now.tags self.now.before.now base) parts.now) }
     {
         for declarator in parts {
-            self.field(base, declarator, earlier, notes)?;
+            self.field(base, declarator, earlier, size, notes)?;
         }
         Ok(())
     }
 
-    /// The fields of a struct, line by line.
-    fn lines(&self, lines: &[Field], notes: &mut Items<Note>) -> Result<Items<Member>, NoMemory>
+    /// The fields of a struct, line by line, and the size of all of them.
+    fn lines(&self, lines: &[Field], notes: &mut Items<Note>) -> Result<u32, NoMemory>
         ensures notes { OnOk result (notes.new ≡ notes.old ++ faults.lines_notes (text_at self.now.source.now self.now.tokens.now) self.now.file.now self.now.before.now lines.now []) }
-        ensures members { IfOk result (λ l. l ≡ scopes.fields_of (text_at self.now.source.now self.now.tokens.now) self.now.file.now.tags self.now.before.now lines.now) }
+        ensures size { IfOk result (λ n. n ≡ scopes.fields_size self.now.file.now.sizes (scopes.fields_of (text_at self.now.source.now self.now.tokens.now) self.now.file.now.tags self.now.before.now lines.now)) }
     {
-        let mut members = Items::new(self.alloc);
+        let mut members = Named::new(self.alloc);
+        let mut size = 0;
         for line in lines {
-            self.line(line.base, line.parts.as_slice(), &mut members, notes)?;
+            self.line(
+                line.base,
+                line.parts.as_slice(),
+                &mut members,
+                &mut size,
+                notes,
+            )?;
         }
-        Ok(members)
+        Ok(size)
     }
 
     /// The fields of a struct and its size, which is judged at token `t`.
@@ -153,8 +168,7 @@ impl View<'_> {
         ensures { OnOk result (notes.new ≡ notes.old ++ faults.fields_notes (text_at self.now.source.now self.now.tokens.now) self.now.file.now t self.now.before.now lines.now) }
     {
         let mut said = Items::new(self.alloc);
-        let members = self.lines(lines, &mut said)?;
-        let size = fields_size(self.file.sizes.as_slice(), members.as_slice());
+        let size = self.lines(lines, &mut said)?;
         note_struct_size(t, has_fault(said.as_slice()), size, notes)?;
         notes.append(said)?;
         Ok(())
@@ -164,7 +178,7 @@ impl View<'_> {
     pub fn tag_of(&self, tag: u32) -> Option<u32>
         ensures { result ≡ scopes.tag_in ((text_at self.now.source.now self.now.tokens.now) tag) self.now.file.now.tags }
     {
-        tag_in(self.text(tag), self.file.tags.as_slice())
+        self.type_names().tag(tag)
     }
 
     /// Whether the struct of that number is defined before.
@@ -172,7 +186,7 @@ impl View<'_> {
         ensures { result ≡ faults.is_earlier (text_at self.now.source.now self.now.tokens.now) self.now.file.now self.now.before.now number }
     {
         match number {
-            Some(number) => number < self.before.structs,
+            Some(number) => number < self.before.structs(),
             None => false,
         }
     }

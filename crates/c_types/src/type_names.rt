@@ -8,12 +8,13 @@ ghost use Rattle.cc_model.specs.declared.typing.Alias.{Alias as TypeAlias};
 ghost use Rattle.cc_model.specs.Source.{text_at};
 ghost use Rattle.cc_model.specs.Scopes as scopes;
 
-use crate::names::{alias_in, cut, tag_in};
+use crate::names::{cut, tag_in};
 use crate::types::void_type;
+use c_names::{Preceding, TagIndex};
 use cc_model::Token;
 use cc_model::base::NoMemory;
 use cc_model::trees::{Base, Declarator, Length, ResultType, TypeName};
-use cc_model::typing::{BaseType, Before, CType, Text};
+use cc_model::typing::{BaseType, CType, Text};
 use sqlite_items::{Items, at};
 use std::alloc::Global;
 
@@ -23,7 +24,7 @@ pub struct TypeNames<'a> {
     pub alloc: Global,
     pub source: &'a [u8],
     pub tokens: &'a [Token],
-    pub tags: &'a Items<Option<Text>>,
+    pub tags: &'a TagIndex,
     ghost few_tags: { length tags.now < 2 ^ 32 },
 }
 
@@ -91,22 +92,22 @@ impl TypeNames<'_> {
         ensures { result ≡ scopes.tag_in (text_at self.now.source.now self.now.tokens.now t) self.now.tags.now }
     {
         let name = token_text(self.source, self.tokens, t);
-        tag_in(name, self.tags.as_slice())
+        tag_in(name, self.tags)
     }
 
     /// What the name of a typedef means.
-    fn alias(&self, before: &Before, t: u32) -> Option<BaseType>
+    fn alias(&self, before: &Preceding, t: u32) -> Option<BaseType>
         ensures { result ≡ option_and_then (λ (a : TypeAlias). option_map Struct a.number) (scopes.alias_in (text_at self.now.source.now self.now.tokens.now t) before.now.aliases) }
     {
         let name = token_text(self.source, self.tokens, t);
-        match alias_in(name, before.aliases.as_slice()) {
+        match before.alias(name) {
             Some(alias) => struct_base(alias.number),
             None => None,
         }
     }
 
     /// What the name of a type means.
-    fn base_named(&self, before: &Before, base: Base) -> Option<BaseType>
+    fn base_named(&self, before: &Preceding, base: Base) -> Option<BaseType>
         ensures { result ≡ scopes.base_named (text_at self.now.source.now self.now.tokens.now) self.now.tags.now before.now base }
     {
         match base {
@@ -117,7 +118,7 @@ impl TypeNames<'_> {
     }
 
     /// The type that a name and stars say.
-    pub fn type_named(&self, before: &Before, name: TypeName) -> Option<CType>
+    pub fn type_named(&self, before: &Preceding, name: TypeName) -> Option<CType>
         ensures { result ≡ scopes.type_named (text_at self.now.source.now self.now.tokens.now) self.now.tags.now before.now name }
     {
         match self.base_named(before, name.base) {
@@ -131,14 +132,14 @@ impl TypeNames<'_> {
     }
 
     /// Whether a type's struct is defined before.
-    fn is_complete(&self, before: &Before, stars: u32, base: BaseType) -> bool
+    fn is_complete(&self, before: &Preceding, stars: u32, base: BaseType) -> bool
         ensures { result ≡ scopes.is_complete (text_at self.now.source.now self.now.tokens.now) self.now.tags.now before.now stars base }
     {
         if stars > 0 {
             return true;
         }
         match base {
-            BaseType::Struct(number) => number < before.structs,
+            BaseType::Struct(number) => number < before.structs(),
             BaseType::Int | BaseType::Void => true,
         }
     }
@@ -146,7 +147,7 @@ impl TypeNames<'_> {
     /// The type of an object: a struct has to be defined before.
     pub fn object_type(
         &self,
-        before: &Before,
+        before: &Preceding,
         base: Base,
         stars: u32,
         lengths: Items<u32>,
@@ -170,7 +171,7 @@ impl TypeNames<'_> {
     /// The type of a declarator.
     pub fn declared_type(
         &self,
-        before: &Before,
+        before: &Preceding,
         base: Base,
         declarator: &Declarator,
     ) -> Result<Option<CType>, NoMemory>
@@ -181,7 +182,7 @@ impl TypeNames<'_> {
     }
 
     /// The type of a result.
-    pub fn result_type(&self, before: &Before, gives: ResultType) -> Option<CType>
+    pub fn result_type(&self, before: &Preceding, gives: ResultType) -> Option<CType>
         ensures { result ≡ scopes.result_type (text_at self.now.source.now self.now.tokens.now) self.now.tags.now before.now gives }
     {
         match gives {
@@ -191,7 +192,7 @@ impl TypeNames<'_> {
     }
 
     /// The type of a parameter.
-    pub fn param_type(&self, before: &Before, name: TypeName) -> Option<CType>
+    pub fn param_type(&self, before: &Preceding, name: TypeName) -> Option<CType>
         ensures { result ≡ scopes.param_type (text_at self.now.source.now self.now.tokens.now) self.now.tags.now before.now name }
     {
         self.object_type(before, name.base, name.stars, Items::new(self.alloc))

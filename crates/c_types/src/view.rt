@@ -1,18 +1,23 @@
 //! What a checker sees at a place, and what names and types mean there.
 
-ghost use Rattle.std.specs.Prelude.{◌≡◌, ◌<◌, ◌^◌, ◌++◌, [], length, OnOk, IfOk};
+ghost use Rattle.std.specs.Prelude.{◌≡◌, ◌<◌, ◌^◌, ◌++◌, [], length, map, OnOk, IfOk, IfSome};
 ghost use Rattle.std.specs.Option.{option_copied};
+ghost use Rattle.cc_model.specs.declared.typing.Function.{Function as DeclaredFunction};
 ghost use Rattle.cc_model.specs.Source.{text_at};
 ghost use Rattle.cc_model.specs.Scopes as scopes;
 ghost use Rattle.cc_model.specs.Typing as typing;
+ghost use Rattle.cc_model.specs.Faults as faults;
+ghost use Rattle.c_types.specs.FileNames.{is_whole, member_names, offsets_in};
 ghost use Rattle.c_types.specs.Views.{seen};
 
-use crate::names::{function_in, has_name, variable_in, variable_in_scopes};
+use crate::file_names::FileNames;
+use crate::names::variable_in_scopes;
 use crate::type_names::{TypeNames, token_text};
+use c_names::{Named, Preceding};
 use cc_model::Token;
 use cc_model::base::NoMemory;
-use cc_model::trees::{Base, Declarator, ResultType, TypeName};
-use cc_model::typing::{Before, CType, File, Variable};
+use cc_model::trees::{Base, Declarator, Func, ProtoParam, ResultType, TypeName};
+use cc_model::typing::{CType, File, Function, Variable};
 use sqlite_items::Items;
 use std::alloc::Global;
 
@@ -23,10 +28,17 @@ pub struct View<'a> {
     pub source: &'a [u8],
     pub tokens: &'a [Token],
     pub file: &'a File,
-    pub before: &'a Before,
-    pub scopes: &'a [Items<Variable>],
+    pub names: &'a FileNames,
+    pub before: &'a Preceding,
+    pub scopes: &'a [Named<Variable>],
     ghost few_tags: { length file.now.tags < 2 ^ 32 },
     ghost few_functions: { length file.now.functions < 2 ^ 32 },
+    ghost function_names: { names.now.functions ≡ map (λ (f : DeclaredFunction). f.name) file.now.functions },
+    ghost body_names: { names.now.bodies ≡ file.now.bodies },
+    ghost tag_names: { names.now.tags ≡ file.now.tags },
+    ghost whole_functions: { names.now.whole ≡ map is_whole file.now.functions },
+    ghost field_names: { names.now.fields ≡ map member_names file.now.structs },
+    ghost field_offsets: { names.now.offsets ≡ map (offsets_in file.now.sizes 0) file.now.structs },
 }
 
 impl View<'_> {
@@ -44,7 +56,25 @@ impl View<'_> {
         let name = self.text(t);
         match variable_in_scopes(name, self.scopes) {
             Some(variable) => Some(variable),
-            None => variable_in(name, self.before.globals.as_slice()),
+            None => self.before.global(name),
+        }
+    }
+
+    /// Where the function of that name stands among those of the file.
+    fn function_place(&self, name: &[u8]) -> Option<usize>
+        ensures value { result ≡ scopes.function_in name.now self.now.file.now.functions }
+        ensures within { IfSome result (λ n. n < length self.now.file.now.functions) }
+    {
+        self.names.functions.position(name)
+    }
+
+    /// The number of the function of that name.
+    pub fn function_named(&self, name: &[u8]) -> Option<u32>
+        ensures { result ≡ scopes.function_in name.now self.now.file.now.functions }
+    {
+        match self.function_place(name) {
+            Some(number) => Some(number as u32),
+            None => None,
         }
     }
 
@@ -53,12 +83,12 @@ impl View<'_> {
         ensures { result ≡ typing.callee (text_at self.now.source.now self.now.tokens.now) (seen self.now.file.now self.now.before.now self.now.scopes.now) t }
     {
         let name = self.text(t);
-        if !has_name(name, self.file.bodies.as_slice()) {
+        if !self.names.bodies.has(name) {
             return None;
         }
         match variable_in_scopes(name, self.scopes) {
             Some(_) => None,
-            None => function_in(name, self.file.functions.as_slice()),
+            None => self.function_named(name),
         }
     }
 
@@ -72,7 +102,7 @@ impl View<'_> {
             alloc: self.alloc,
             source: self.source,
             tokens: self.tokens,
-            tags: &self.file.tags,
+            tags: &self.names.tags,
         }
     }
 
@@ -115,5 +145,24 @@ impl View<'_> {
         ensures { result ≡ scopes.param_type (text_at self.now.source.now self.now.tokens.now) self.now.file.now.tags self.now.before.now name }
     {
         self.type_names().param_type(self.before, name)
+    }
+    /// A function with a body, as it is declared there.
+    pub fn function_of(&self, function: &Func) -> Result<Function, NoMemory>
+        ensures { IfOk result (λ f. f ≡ faults.function_of (text_at self.now.source.now self.now.tokens.now) self.now.file.now self.now.before.now function.now) }
+    {
+        self.type_names().function_of(self.before, function)
+    }
+
+    /// The function that a prototype declares.
+    pub fn prototype_of(
+        &self,
+        gives: ResultType,
+        name: u32,
+        params: &[ProtoParam],
+    ) -> Result<Function, NoMemory>
+        ensures { IfOk result (λ f. f ≡ faults.prototype_of (text_at self.now.source.now self.now.tokens.now) self.now.file.now self.now.before.now gives name params.now) }
+    {
+        self.type_names()
+            .prototype_of(self.before, gives, name, params)
     }
 }

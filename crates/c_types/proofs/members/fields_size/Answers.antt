@@ -1,6 +1,5 @@
-use Rattle.std.proofs.Common.{◌∙◌, ◌+◌, arith, ap}
-use Rattle.cc_model.specs.Types.{up_to_257}
-use Rattle.cc_model.specs.Scopes.{fields_size}
+use Rattle.std.proofs.Common.{◌+◌, arith, refl}
+use Rattle.cc_model.specs.Scopes.{field_size, fields_size}
 use Rattle.c_types.proofs.FieldLemmas.{none_before, one_more, at_most_257, all_summed}
 use Rattle.c_types.proofs.members.fields_size.Goals as goal
 
@@ -9,10 +8,9 @@ loop-member-init c = (none_before c.args.sizes.now c.args.members.now, omega ari
 
 pub loop-member-preserved : goal.loop-member-preserved
 loop-member-preserved c = (
-  one_more c.args.sizes.now c.args.members.now c.loop-member.member-index c.member-item.result c.loop-member.size c.from-in-loop-member.result c.up_to_257-size.result (fields_size c.args.sizes.now c.args.members.now)
-      c.loop-member-test.true c.member-item.is (c.from-in-loop-member.ensures ∙ c.field_size.ensures)
-      (c.up_to_257-size.ensures ∙ ap (λ x. up_to_257 (x + c.from-in-loop-member.result)) c.from.ensures) c.loop-member.invariant.0,
-  at_most_257 (c.from.result + c.from-in-loop-member.result) c.up_to_257-size.result c.up_to_257-size.ensures,
+  one_more c.args.sizes.now c.args.members.now c.loop-member.member-index c.member-item.result c.loop-member.size (field_size c.args.sizes.now c.member-item.result) c.with_field-size.result (fields_size c.args.sizes.now c.args.members.now)
+      c.loop-member-test.true c.member-item.is refl c.with_field-size.ensures c.loop-member.invariant.0,
+  at_most_257 (c.loop-member.size + field_size c.args.sizes.now c.member-item.result) c.with_field-size.result c.with_field-size.ensures,
 )
 
 pub returns : goal.returns

@@ -1,7 +1,7 @@
 use Rattle.std.proofs.Common.{◌≡◌, ◌++◌, drop}
 use Rattle.cc_model.specs.Source.{text_at}
 use Rattle.cc_model.specs.Scopes.{nothing_before, after_items, structs_in, functions_in}
-use Rattle.c_types.proofs.file.gather.Given as goal
+use Rattle.c_types.proofs.file.walk.Given as goal
 
 abbrev pub invariant-loop-item : goal.invariant-loop-item
 invariant-loop-item l = record {
