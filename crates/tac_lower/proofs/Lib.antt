@@ -14,3 +14,4 @@ pub mod SitedTrees
 pub mod SitedBodies
 pub mod Wholes
 pub mod Tabled
+pub mod EdgeLaws

@@ -1,5 +1,6 @@
 pub mod Adding
 pub mod Emitted
+pub mod Edges
 pub mod Flow
 pub mod Forms
 pub mod Lowering

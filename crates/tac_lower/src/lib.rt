@@ -5,6 +5,7 @@ mod bodies;
 mod emit;
 mod expressions;
 mod finish;
+mod flow;
 mod form;
 mod functions;
 pub mod instr;
