@@ -12,6 +12,7 @@ mod writing;
 pub use base::base_input;
 pub use faults::MapFault;
 pub use maps::{an_input_has_a_map_text, read_map};
+pub use params::{layout, param_cells};
 pub use writing::{write_map, write_test};
 
 #[cfg(test)]
