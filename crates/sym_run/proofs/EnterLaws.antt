@@ -1,5 +1,5 @@
 -- What an access comes to, by the block that it touches or reaches.
-use Rattle.std.proofs.Common.{◌≡◌, ℕ, zero, suc, ◌-◌, ◌<◌, ◌≤◌, ◌⊎◌, inl, inr, ℤ, pos, negsuc, ◌≤ℤ◌, nat_abs, nat_eq, nat_lt, Bool, true, false, ◌||◌, List, [], ◌∷◌, ◌++◌, length, length-append, map, drop, Option, Some, None, unwrap_or, slice_get, refl, sym, ap, ap₂, ◌∙◌, subst, arith, if◌then◌else◌}
+use Rattle.std.proofs.Common.{◌≡◌, ℕ, zero, suc, ◌-◌, ◌<◌, ◌≤◌, ◌⊎◌, inl, inr, ℤ, pos, negsuc, ◌≤ℤ◌, nat_abs, nat_eq, nat_lt, Bool, true, false, ◌||◌, List, [], ◌∷◌, ◌++◌, length, length-append, map, drop, Option, Some, None, Result, Ok, Err, IfOk, OnOk, unwrap_or, slice_get, refl, sym, ap, ap₂, ◌∙◌, subst, arith, if◌then◌else◌}
 use Rattle.std.specs.Option.{option_map}
 use Rattle.std.proofs.lemmas.Bool.{ltb_from_iff}
 use Rattle.std.proofs.lemmas.Int.{ints}
@@ -338,3 +338,9 @@ has_blocks tys f b params globals base h types low high laid = record {
 pub known_kept : (named : List Named) (touched now more : List ℕ) (symbols new : List Symbol) (c : Cell) → now ≡ touched ++ more → Grows symbols new → IsKnown named touched symbols c → IsKnown named now new c
 known_kept named touched now more symbols new c names grown known =
     subst (λ (l : List ℕ). IsKnown named l new c) (sym names) (subst (λ (l : List Symbol). IsKnown named (touched ++ more) l c) (sym grown.1) (known_append named (touched ++ more) symbols grown.0 c (known_touched named touched more symbols c known)))
+
+-- ---- results
+
+pub both_ok : {A E G : Type 0} {P Q R : A → Type 0} (r : Result A E) → IfOk r P → IfOk r Q → OnOk r G → ((x : A) → P x → Q x → G → R x) → IfOk r R
+both_ok (Ok x) p q g f = f x p q g
+both_ok (Err e) p q g f = tt

@@ -1,5 +1,5 @@
 -- The values of a run with what stands beside them, as cells and symbols hold them.
-use Rattle.std.specs.Prelude.{ℕ, zero, suc, ◌≡◌, ◌≤◌, ◌^◌, ℤ, pos, negsuc, ◌≤ℤ◌, List, Option, Some, None, slice_get, length, nat_abs}
+use Rattle.std.specs.Prelude.{ℕ, zero, suc, ◌≤◌, pos, negsuc, ◌≤ℤ◌, List, Option, Some, None, slice_get, length, nat_abs}
 use Rattle.checked_memory.specs.declared.values.Cell.{Cell}
 use Rattle.checked_memory.specs.declared.values.Value.{Value}
 use Rattle.checked_memory.specs.declared.values.Value.TheVariants.{Int, Null, Made, Block}

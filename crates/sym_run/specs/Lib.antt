@@ -5,4 +5,15 @@ pub mod Blocks
 pub mod Remembers
 pub mod Pointers
 pub mod Accesses
+pub mod Stands
+pub mod Journals
+pub mod Acting
 pub mod Follows
+pub mod Inside
+pub mod Params
+pub mod Passing
+pub mod Coming
+pub mod Running
+pub mod Traces
+pub mod Starting
+pub mod Placing

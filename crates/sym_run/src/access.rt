@@ -18,7 +18,7 @@ ghost use Rattle.sym_run.specs.Accesses.{held, symbol_at, symbols_from, cells_fr
 ghost use Rattle.sym_run.specs.Follows.{HasBlocks, accessed, Reaches, Follows};
 ghost use Rattle.sym_run.specs.Numbers.{Grows};
 ghost use Rattle.sym_run.specs.Pointers.{place_in};
-ghost use Rattle.sym_run.specs.Remembers.{cell_shadow, names_in, Every, IsKnown, Remembers};
+ghost use Rattle.sym_run.specs.Remembers.{cell_shadow, names_in, IsKnown, Remembers};
 
 use crate::acted::Acted;
 use crate::objects::{First, Objects, add_place};
@@ -38,7 +38,7 @@ fn first_at(firsts: &[First], rank: u8) -> Option<First>
 }
 
 /// The number at an index.
-fn number_at(numbers: &[i64], index: usize) -> Option<i64>
+pub(crate) fn number_at(numbers: &[i64], index: usize) -> Option<i64>
     ensures { result ≡ slice_get numbers.now index }
 {
     numbers.get(index).copied()
@@ -59,7 +59,7 @@ fn numbers_from(numbers: &[i64], address: i64) -> Option<&[i64]>
 }
 
 /// The cells of a type.
-fn layout_at(layouts: &[Layout], ty: TyId) -> &[CellTy]
+pub(crate) fn layout_at(layouts: &[Layout], ty: TyId) -> &[CellTy]
     ensures { result.now ≡ unwrap_or (slice_get layouts.now ty.0) [] }
 {
     match layouts.get(ty.0 as usize) {
@@ -95,7 +95,7 @@ fn symbol_of(place: PlaceId, ty: CellTy) -> Symbol
 }
 
 /// Adds the place of a block's cell and its symbol, and answers the cell.
-fn new_cell(
+pub(crate) fn new_cell(
     symbols: &mut Symbols,
     places: &mut Places,
     place: Place,
@@ -117,7 +117,7 @@ fn new_cell(
 
 /// The cells of a block, from the input's numbers, with their places and symbols. No memory, too, where there are fewer
 /// numbers than cells.
-fn new_cells(
+pub(crate) fn new_cells(
     alloc: Global,
     symbols: &mut Symbols,
     places: &mut Places,
@@ -143,13 +143,6 @@ fn new_cells(
         }
     }
     Ok(cells)
-}
-
-/// What an access to a block gives: the block's rank, and the pointer to it.
-#[derive(Clone, Copy, Debug)]
-struct Entered {
-    rank: u8,
-    cell: Cell,
 }
 
 impl Objects {
@@ -271,7 +264,7 @@ impl Objects {
         self.touch(alloc, symbols, layout, numbers, address, pointer)
     }
 
-    /// An access to the block at an address. No memory, too, where a block more than 26 would be touched.
+    /// An access to the block at an address, which has this rank or is touched with it now: the pointer to it.
     fn entered(
         &mut self,
         alloc: Global,
@@ -280,31 +273,26 @@ impl Objects {
         input: &Input,
         at: Cell,
         address: i64,
-    ) -> Result<Entered, NoMemory>
-        ensures rank { IfOk result (λ e. Every (λ b. pos 0 ≤ℤ b.address) self.old.memory.touched → pos 0 ≤ℤ address → e.rank ≡ plain.rank (nat_abs address) (names_in self.old)) }
-        ensures reaches { IfOk result (λ e. (start : plain.Data) (named : List Named) (d : traced.Data) (layout_of : ℕ → List core.Cell) (i : ℕ)
+        rank: u8,
+    ) -> Result<Cell, NoMemory>
+        ensures reaches { IfOk result (λ cell. (start : plain.Data) (named : List Named) (d : traced.Data) (layout_of : ℕ → List core.Cell) (i : ℕ)
             → HasBlocks layouts.now input.now layout_of named start → Remembers start named symbols.old self.old d
-            → at.value ≡ Value.Block address i → IsKnown named (names_in self.old) symbols.old at
-            → Reaches start named symbols.new self.new e.cell (accessed layout_of symbols.old at d)) }
+            → at.value ≡ Value.Block address i → IsKnown named (names_in self.old) symbols.old at → rank ≡ plain.rank (nat_abs address) (names_in self.old)
+            → Reaches start named symbols.new self.new cell (accessed layout_of symbols.old at d)) }
         ensures symbols { OnOk result (Grows symbols.old symbols.new) }
         ensures names { OnOk result ((more : List ℕ) × (names_in self.new ≡ names_in self.old ++ more)) }
     {
-        let count = self.memory.touched();
         match self.memory.rank_of(address) {
-            Some(rank) => {
-                let cell = self.reached(symbols, rank, at)?;
-                Ok(Entered { rank, cell })
-            }
+            Some(_) => self.reached(symbols, rank, at),
             None => {
                 self.touch_new(alloc, symbols, layouts, input, at, address)?;
-                let cell = self.reached(symbols, count, at)?;
-                Ok(Entered { rank: count, cell })
+                self.reached(symbols, rank, at)
             }
         }
     }
 
     /// An access through a pointer: its outcome, what it asks, and the pointer to the object that it reaches. No memory, too,
-    /// where a block more than 26 would be touched, or where the input has no block at a pointer's address.
+    /// where a block more than 26 would be touched.
     pub fn access(
         &mut self,
         alloc: Global,
@@ -325,11 +313,12 @@ impl Objects {
         let asked = access_asked(alloc, symbols, self.firsts.as_slice(), at)?;
         match at.value {
             Value::Block(address, _) => {
-                let entered = self.entered(alloc, symbols, layouts, input, at, address)?;
+                let rank = self.rank(address);
+                let cell = self.entered(alloc, symbols, layouts, input, at, address, rank)?;
                 Ok(Acted {
-                    outcome: Outcome::Object(entered.rank),
+                    outcome: Outcome::Object(rank),
                     asked,
-                    cell: entered.cell,
+                    cell,
                 })
             }
             Value::Made(_, _) => Ok(Acted {
@@ -348,86 +337,5 @@ impl Objects {
                 cell: at,
             }),
         }
-    }
-}
-
-#[cfg(test)]
-mod tests {
-    use super::*;
-    use crate::asked::Asked;
-    use cc_model::base::Items;
-    use std::test::Fail;
-
-    /// The cells of two types: none, and an int.
-    fn two_layouts(alloc: Global) -> Result<Items<Layout>, NoMemory> {
-        let none = Items::new(alloc);
-        let mut one = Items::new(alloc);
-        one.push(CellTy::Int)?;
-        let mut layouts = Items::new(alloc);
-        layouts.push(none)?;
-        layouts.push(one)?;
-        Ok(layouts)
-    }
-
-    /// Two pointers to a block with the number 7.
-    fn two_pointers(alloc: Global) -> Result<Input, NoMemory> {
-        let mut cells = Items::new(alloc);
-        cells.push(3)?;
-        cells.push(3)?;
-        cells.push(7)?;
-        Ok(Input {
-            cells,
-            stream: Items::new(alloc),
-        })
-    }
-
-    /// The parameter with a number, which points to the block.
-    fn parameter(
-        symbols: &mut Symbols,
-        objects: &mut Objects,
-        number: u32,
-    ) -> Result<Cell, NoMemory> {
-        let target = TyId(1);
-        let place = add_place(&mut objects.places, Place::Arg(number), CellTy::Ptr(target))?;
-        let shadow = symbols.add(Symbol::Place(place, target))?;
-        Ok(Cell {
-            value: Value::Block(3, 0),
-            shadow,
-        })
-    }
-
-    /// How many choices are asked; 100 for a term.
-    fn choices(asked: &Asked) -> usize {
-        match asked {
-            Asked::Nothing => 0,
-            Asked::Term(_) => 100,
-            Asked::OneOf(choices) => choices.len(),
-        }
-    }
-
-    #[test]
-    fn one_block_by_two_pointers(rt: HostRuntime) -> Result<(), Fail> {
-        let alloc = rt.alloc();
-        let mut symbols = Symbols::new(alloc);
-        let mut objects = Objects::new(alloc);
-        let p = parameter(&mut symbols, &mut objects, 0)?;
-        let q = parameter(&mut symbols, &mut objects, 1)?;
-        let layouts = two_layouts(alloc)?;
-        let input = two_pointers(alloc)?;
-        for (pointer, count) in [(p, 2), (p, 0), (q, 3)] {
-            let acted = objects.access(alloc, &mut symbols, layouts.as_slice(), &input, pointer)?;
-            assert_eq!(rt;
-                (acted.outcome, choices(&acted.asked)),
-                (Outcome::Object(0), count)
-            );
-            assert_eq!(rt;
-                objects.load(acted.cell),
-                Some(Cell {
-                    value: Value::Int(7),
-                    shadow: 3
-                })
-            );
-        }
-        Ok(())
     }
 }

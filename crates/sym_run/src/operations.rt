@@ -185,29 +185,3 @@ pub fn negated_cell(symbols: &Symbols, a: Cell) -> Formed
     }
     negated_of(&form_of(symbols, a))
 }
-
-#[cfg(test)]
-mod tests {
-    use super::*;
-    use std::test::Fail;
-    use sym_expr::PlaceId;
-
-    fn is_wide(formed: &Formed) -> bool {
-        match formed {
-            Formed::Termed(TermKind::Wide) => true,
-            _ => false,
-        }
-    }
-
-    #[test]
-    fn too_wide(rt: HostRuntime) -> Result<(), Fail> {
-        let place = Form::of(PlaceId(3));
-        let steep = place.scale(1 << 40)?;
-        let far = Form::number(2_147_483_647).scale(1 << 40)?;
-        assert!(rt; is_wide(&formed_of(Operation::Mul, &steep, &Form::number(2))));
-        assert!(rt; is_wide(&formed_of(Operation::Mul, &far, &place)));
-        assert!(rt; !is_wide(&formed_of(Operation::Mul, &far, &Form::number(2))));
-        assert!(rt; !is_wide(&formed_of(Operation::Sub, &steep, &steep)));
-        Ok(())
-    }
-}

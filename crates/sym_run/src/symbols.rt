@@ -45,6 +45,13 @@ impl Symbols {
         }
     }
 
+    /// How many symbols there are.
+    pub fn len(&self) -> usize
+        ensures { result ≡ length self.now }
+    {
+        self.list.len()
+    }
+
     /// The symbol with a number; None where there is none.
     pub fn get(&self, number: u32) -> Option<&Symbol>
         ensures value { option_copied result ≡ slice_get self.now number }

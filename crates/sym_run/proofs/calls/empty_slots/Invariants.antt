@@ -1,0 +1,6 @@
+use Rattle.std.proofs.Common.{◌≡◌, ℕ, Some, slice_get}
+use Rattle.checked_memory.specs.declared.values.Cell.{Cell}
+use Rattle.sym_run.proofs.calls.empty_slots.Given as goal
+
+abbrev pub invariant-loop-number : goal.invariant-loop-number
+invariant-loop-number l = (n : ℕ) (c : Cell) → slice_get l.slots n ≡ Some (Some c) → ⊥
