@@ -1,208 +1,370 @@
--- What the form of a command says of the first words of a list.
-use Rattle.std.proofs.Common.{◌≡◌, ℕ, ◌+◌, ◌<◌, ◌≤◌, List, [], ◌∷◌, ◌++◌, length, take, drop, arith, sym, subst, refl, ap, ◌∙◌, inl, inr, append_assoc, length-append}
+-- What the forms of the commands say of the first words of a list.
+use Rattle.std.proofs.Common.{◌≡◌, ◌∙◌, sym, ap, refl, subst, ℕ, suc, ◌+◌, ◌<◌, ◌≤◌, ◌⊎◌, inl, inr, ⊎_elim, pos, List, [], ◌∷◌, ◌++◌, take, drop, length, arith, codes, append_assoc, length-append, Result, Ok, Err}
+use Rattle.std.specs.Prelude.{IfOk, IfErr}
 use Rattle.std.proofs.lemmas.List.{take-append-le, take-append-drop, take_at}
-use Rattle.std.specs.Prelude.{codes, ◌⊎◌, ◌==◌, true, false, String}
-use Rattle.std.specs.declared.alloc.Global.{Global}
-use Rattle.std.proofs.lemmas.Bool.Decides.{nat_tests}
-use Rattle.std.specs.Fmt.{decimal}
-use Rattle.std.proofs.lemmas.Fmt.{decimal_injective}
-use Rattle.cc_model.specs.Words.{texts, Accepted, run, Begins, BadWord, run_words}
+use Rattle.std.proofs.lemmas.Int.{ints}
+use Rattle.std.specs.Fmt.{signed_decimal}
+use Rattle.cc_base.specs.Limits.{Limits}
 use Rattle.cc_model.specs.declared.commands.Command.{Command}
+use Rattle.concolic_cli.specs.Words.{Row, Accepted, run, trace, Begins, BadWord, run_words, trace_words, IsNumber, IsGiven, AreNamed, AreBounds, run_options, trace_options, solver_option, depth_option}
+use Rattle.concolic_cli.specs.Options.{Fits, FitsWith, IsBadAt}
+use Rattle.concolic_cli.proofs.NamedWords.{Words, length_take}
+use Rattle.concolic_cli.proofs.Numerals.{one_number}
+use Rattle.concolic_cli.proofs.OptionTables.{run_table, trace_table, fits_nothing, has_bounds, given_natural, given_once, bounds_once, run_fits, trace_fits}
 
--- the words of the form, the numbers as texts
-abbrev pub run_form : List ℕ → List ℕ → ℕ → ℕ → List (List ℕ)
-run_form file entry runs depth = codes "run" ∷ file ∷ entry ∷ decimal runs ∷ codes "-dfs" ∷ decimal depth ∷ []
+-- ---- the forms
 
--- an accepted list taken apart, with its numbers as texts
-pub record RunForm (words : List (List ℕ)) (command : Command) : Type 0 where
+-- an accepted list that begins with `run`
+pub record IsRun (words : Words) (command : Command) : Type 0 where
   pub file : List ℕ
   pub entry : List ℕ
+  pub n : List ℕ
+  pub d : List ℕ
+  pub options : Words
   pub runs : ℕ
-  pub depth : ℕ
-  pub words_are : words ≡ run_form file entry runs depth
-  pub command_is : command ≡ run_words runs depth
-  pub runs_low : 1 ≤ runs
-  pub runs_high : runs ≤ 1000000
-  pub depth_low : 1 ≤ depth
-  pub depth_high : depth ≤ 1024
+  pub budget : ℕ
+  pub bounds : Limits
+  pub words_are : words ≡ codes "run" ∷ file ∷ entry ∷ n ∷ codes "-dfs" ∷ d ∷ options
+  pub command_is : command ≡ run_words runs bounds budget
+  pub runs_is : IsNumber n (pos 1) (pos 1000000) (pos runs)
+  pub depth_is : IsNumber d (pos 1) (pos 1024) (pos bounds.depth)
+  pub named : AreNamed run_options options
+  pub bounds_are : AreBounds options bounds
+  pub budget_is : IsGiven options solver_option (pos budget)
 
--- an accepted list has a form
-pub form_of : (words : List (List ℕ)) (command : Command) → Accepted words command → RunForm words command
-form_of _ _ (run f e rw dw n d a b) = record {
-  file = f;
-  entry = e;
-  runs = n;
-  depth = d;
-  words_are = let r : rw ≡ decimal n = a.text in let s : dw ≡ decimal d = b.text in cc;
-  command_is = refl;
-  runs_low = a.at_least;
-  runs_high = a.at_most;
-  depth_low = b.at_least;
-  depth_high = b.at_most;
-}
+-- an accepted list that begins with `trace`
+pub record IsTrace (words : Words) (command : Command) : Type 0 where
+  pub file : List ℕ
+  pub entry : List ℕ
+  pub input : List ℕ
+  pub options : Words
+  pub bounds : Limits
+  pub words_are : words ≡ codes "trace" ∷ file ∷ entry ∷ input ∷ options
+  pub command_is : command ≡ trace_words bounds
+  pub named : AreNamed trace_options options
+  pub bounds_are : AreBounds options bounds
+  pub depth_is : IsGiven options depth_option (pos bounds.depth)
 
--- numbers in range make an accepted list
-pub accepted_run : (words : List (List ℕ)) (f e : List ℕ) (n d : ℕ) → 1 ≤ n → n ≤ 1000000 → 1 ≤ d → d ≤ 1024
-    → words ≡ run_form f e n d → Accepted words (run_words n d)
-accepted_run words f e n d nl nh dl dh eq =
-    subst (λ (ws : List (List ℕ)). Accepted ws (run_words n d)) (sym eq)
-    (run f e (decimal n) (decimal d) n d (record { text = refl; at_least = nl; at_most = nh }) (record { text = refl; at_least = dl; at_most = dh }))
+-- an accepted list has one of the forms
+pub form_of : (words : Words) (command : Command) → Accepted words command → IsRun words command ⊎ IsTrace words command
+form_of _ _ (run f e n d o r b l x y z u v) = inl (record { file = f; entry = e; n = n; d = d; options = o; runs = r; budget = b; bounds = l; words_are = refl; command_is = refl; runs_is = x; depth_is = y; named = z; bounds_are = u; budget_is = v })
+form_of _ _ (trace f e m o l z u v) = inr (record { file = f; entry = e; input = m; options = o; bounds = l; words_are = refl; command_is = refl; named = z; bounds_are = u; depth_is = v })
+
+pub run_of : (rest : Words) (command : Command) → Accepted (codes "run" ∷ rest) command → IsRun (codes "run" ∷ rest) command
+run_of rest command a = ⊎_elim (λ r. r) (λ t. absurd (cc t.words_are)) (form_of (codes "run" ∷ rest) command a)
+
+pub trace_of : (rest : Words) (command : Command) → Accepted (codes "trace" ∷ rest) command → IsTrace (codes "trace" ∷ rest) command
+trace_of rest command a = ⊎_elim (λ r. absurd (cc r.words_are)) (λ t. t) (form_of (codes "trace" ∷ rest) command a)
+
+-- ---- a list of words with a part read
 
 -- fewer first words begin an accepted list too
-pub begins_take : (words : List (List ℕ)) (k : ℕ) → Begins words → Begins (take k words)
+pub begins_take : (words : Words) (k : ℕ) → Begins words → Begins (take k words)
 begins_take words k b =
     let e : words ++ b.0 ≡ take k words ++ (drop k words ++ b.0) =
-    ap (λ (ws : List (List ℕ)). ws ++ b.0) (sym (take-append-drop k words)) ∙ append_assoc (take k words) (drop k words) b.0 in
-    (drop k words ++ b.0, b.1, subst (λ (ws : List (List ℕ)). Accepted ws b.1) e b.2)
+    ap (λ (ws : Words). ws ++ b.0) (sym (take-append-drop k words)) ∙ append_assoc (take k words) (drop k words) b.0 in
+    (drop k words ++ b.0, b.1, subst (λ (ws : Words). Accepted ws b.1) e b.2)
 
--- an accepted list begins one
-pub begins_run : (f e : List ℕ) (n d : ℕ) → 1 ≤ n → n ≤ 1000000 → 1 ≤ d → d ≤ 1024 → Begins (run_form f e n d)
-begins_run f e n d nl nh dl dh = ([], run_words n d, accepted_run (run_form f e n d) f e n d nl nh dl dh refl)
-
--- and so do its first words, up to any number
-begins_first : (k : ℕ) (f e : List ℕ) (n : ℕ) → 1 ≤ n → n ≤ 1000000 → Begins (take k (run_form f e n 1))
-begins_first k f e n nl nh = begins_take (run_form f e n 1) k (begins_run f e n 1 nl nh (omega arith) (omega arith))
+-- a list goes on as the rest does: it ends where the rest ends, and its next word is the rest's
+pub data GoesOn : Words → Words → Type 0 where
+  ends : GoesOn [] []
+  word : (w : List ℕ) (more later : Words) → GoesOn (w ∷ more) (w ∷ later)
 
 -- where the bad word stands
-here_is : (good rest : List (List ℕ))
-    → ((w : List ℕ) (more : List (List ℕ)) → rest ≡ w ∷ more → ¬ Begins (good ++ w ∷ []))
+here_is : (good rest : Words) → ((tail : Words) (command : Command) → GoesOn rest tail → Accepted (good ++ tail) command → ⊥)
     → ((length good + 1 ≤ length (good ++ rest)) × ¬ Begins (take (length good + 1) (good ++ rest))) ⊎ (length good + 1 ≡ length (good ++ rest) + 1)
 here_is good [] bad = inr (omega (arith, length-append good []))
 here_is good (w ∷ more) bad =
     let shown : take (length good + 1) (good ++ (w ∷ more)) ≡ good ++ w ∷ [] =
     ap (take (length good + 1)) (sym (append_assoc good (w ∷ []) more)) ∙ take_at (good ++ w ∷ []) more (length good + 1) (length-append good (w ∷ [])) in
-    inl (omega (arith, length-append good (w ∷ more)), subst (λ (ws : List (List ℕ)). ¬ Begins ws) (sym shown) (bad w more refl))
+    inl (
+      omega (arith, length-append good (w ∷ more)),
+      subst (λ (ws : Words). ¬ Begins ws) (sym shown)
+          (λ b. bad (w ∷ b.0) b.1 (word w more b.0) (subst (λ (ws : Words). Accepted ws b.1) (append_assoc good (w ∷ []) b.0) b.2)),
+    )
 
--- the word behind good ones is bad: it is missing, or no accepted list has it there
-pub bad_after : (words good rest : List (List ℕ)) → words ≡ good ++ rest → Begins good → ((command : Command) → ¬ Accepted (good ++ rest) command)
-    → ((w : List ℕ) (more : List (List ℕ)) → rest ≡ w ∷ more → ¬ Begins (good ++ w ∷ [])) → BadWord words (length good + 1)
-bad_after words good rest eq b none bad =
-    let P : List (List ℕ) → Type 0 = λ ws. BadWord ws (length good + 1) in
-    subst P (sym eq) (record {
-      refused = none;
+itself : (rest : Words) → GoesOn rest rest
+itself [] = ends
+itself (w ∷ rest) = word w rest rest
+
+-- the word behind good ones is bad: no accepted list goes on so
+bad_after : {words : Words} (good rest : Words) → words ≡ good ++ rest → Begins good → ((tail : Words) (command : Command) → GoesOn rest tail → Accepted (good ++ tail) command → ⊥) → BadWord words (length good + 1)
+bad_after good rest eq b bad =
+    subst (λ (ws : Words). BadWord ws (length good + 1)) (sym eq) (record {
+      refused = λ command a. bad rest command (itself rest) a;
       before = λ k h.
           let le : k ≤ length good = omega arith in
           subst Begins (sym (take-append-le k good rest le)) (begins_take good k b);
       here = here_is good rest bad;
     })
 
--- word 1 is `run`
-pub bad_1 : (words : List (List ℕ)) → ((rest : List (List ℕ)) → words ≡ codes "run" ∷ rest → ⊥) → BadWord words 1
-bad_1 words differs =
-    bad_after words [] words refl (begins_first 0 [] [] 1 (omega arith) (omega arith))
-    (λ c a. differs _ (form_of words c a).words_are)
-    (λ w more e b.
-    let f = form_of _ _ b.2 in
-    let g : w ∷ b.0 ≡ run_form f.file f.entry f.runs f.depth = f.words_are in
-    differs more (cc))
+-- ---- the fixed words
 
--- word 2 is any word; below, l1 is what stands behind word 1, and so on
-pub bad_2 : {words l1 : List (List ℕ)} → words ≡ codes "run" ∷ l1 → l1 ≡ [] → BadWord words 2
-bad_2 {words} {l1} e1 none =
-    bad_after words (codes "run" ∷ []) l1 e1 (begins_first 1 [] [] 1 (omega arith) (omega arith))
-    (λ c a. let g = (form_of (codes "run" ∷ l1) c a).words_are in cc)
-    (λ w more h b. cc)
+text_of_one : List ℕ
+text_of_one = signed_decimal (pos 1)
+
+one : IsNumber text_of_one (pos 1) (pos 1000000) (pos 1)
+unfolding text_of_one
+one = record { text = refl; at_least = omega (arith, ints); at_most = omega (arith, ints) }
+
+pub accepted_run : (f e n d : List ℕ) (options : Words) (runs depth : ℕ) → IsNumber n (pos 1) (pos 1000000) (pos runs) → IsNumber d (pos 1) (pos 1024) (pos depth) → Fits run_options options
+    → (command : Command) × Accepted (codes "run" ∷ f ∷ e ∷ n ∷ codes "-dfs" ∷ d ∷ options) command
+accepted_run f e n d options runs depth r s fits =
+    let b = has_bounds run_options run_table options depth fits in
+    let budget = given_natural options solver_option refl (fits.given (codes "-solver") solver_option.1 refl) in
+    (run_words runs b.0 budget.0, run f e n d options runs budget.0 b.0 r (subst (λ k. IsNumber d (pos 1) (pos 1024) (pos k)) (sym b.2) s) fits.named b.1 budget.1)
+
+pub accepted_trace : (f e m : List ℕ) (options : Words) → Fits trace_options options → (command : Command) × Accepted (codes "trace" ∷ f ∷ e ∷ m ∷ options) command
+accepted_trace f e m options fits =
+    let depth = given_natural options depth_option refl (fits.given (codes "-depth") depth_option.1 refl) in
+    let b = has_bounds trace_options trace_table options depth.0 fits in
+    (trace_words b.0, trace f e m options b.0 fits.named b.1 (subst (λ k. IsGiven options depth_option (pos k)) (sym b.2) depth.1))
+
+begins_run : (k : ℕ) (f e n d : List ℕ) (runs depth : ℕ) → IsNumber n (pos 1) (pos 1000000) (pos runs) → IsNumber d (pos 1) (pos 1024) (pos depth)
+    → Begins (take k (codes "run" ∷ f ∷ e ∷ n ∷ codes "-dfs" ∷ d ∷ []))
+begins_run k f e n d runs depth r s =
+    let a = accepted_run f e n d [] runs depth r s (fits_nothing run_options run_table) in
+    begins_take (codes "run" ∷ f ∷ e ∷ n ∷ codes "-dfs" ∷ d ∷ []) k ([], a.0, a.1)
+
+begins_trace : (k : ℕ) (f e m : List ℕ) → Begins (take k (codes "trace" ∷ f ∷ e ∷ m ∷ []))
+begins_trace k f e m =
+    let a = accepted_trace f e m [] (fits_nothing trace_options trace_table) in
+    begins_take (codes "trace" ∷ f ∷ e ∷ m ∷ []) k ([], a.0, a.1)
+
+deep : IsNumber text_of_one (pos 1) (pos 1024) (pos 1)
+unfolding text_of_one
+deep = record { text = refl; at_least = omega (arith, ints); at_most = omega (arith, ints) }
+
+-- word 1 is `run` or `trace`
+pub bad_1 : (words : Words) → ((rest : Words) → words ≡ codes "run" ∷ rest → ⊥) → ((rest : Words) → words ≡ codes "trace" ∷ rest → ⊥) → BadWord words 1
+bad_1 words no_run no_trace =
+    bad_after [] words refl (begins_trace 0 [] [] []) (λ tail command g a.
+    ⊎_elim (λ r. begun words tail g (codes "run") _ r.words_are no_run) (λ t. begun words tail g (codes "trace") _ t.words_are no_trace) (form_of tail command a))
+  where
+    begun : (words tail : Words) → GoesOn words tail → (w : List ℕ) (later : Words) → tail ≡ w ∷ later → ((rest : Words) → words ≡ w ∷ rest → ⊥) → ⊥
+    begun _ _ ends w later e none = cc e
+    begun _ _ (word v more others) w later e none = none more (cc e)
+
+-- `run`: word 2 is any word; below, l1 is what stands behind word 1, and so on
+pub run_2 : {l1 : Words} → l1 ≡ [] → BadWord (codes "run" ∷ l1) 2
+run_2 {l1} none = bad_after (codes "run" ∷ []) [] (ap (λ (l : Words). codes "run" ∷ l) none) (begins_run 1 [] [] text_of_one text_of_one 1 1 one deep) (λ tail command g a. ended tail g command a)
+  where
+    ended : (tail : Words) → GoesOn [] tail → (command : Command) → Accepted (codes "run" ∷ tail) command → ⊥
+    ended _ ends command a = cc (run_of [] command a).words_are
 
 -- word 3 is any word
-pub bad_3 : {words l1 l2 : List (List ℕ)} {f : List ℕ} → words ≡ codes "run" ∷ l1 → l1 ≡ f ∷ l2 → l2 ≡ [] → BadWord words 3
-bad_3 {words} {l1} {l2} {f} e1 e2 none =
-    bad_after words (codes "run" ∷ f ∷ []) l2 (cc) (begins_first 2 f [] 1 (omega arith) (omega arith))
-    (λ c a. let g = (form_of (codes "run" ∷ f ∷ l2) c a).words_are in cc)
-    (λ w more h b. cc)
+pub run_3 : {l1 l2 : Words} {f : List ℕ} → l1 ≡ f ∷ l2 → l2 ≡ [] → BadWord (codes "run" ∷ l1) 3
+run_3 {l1} {l2} {f} e1 none = bad_after (codes "run" ∷ f ∷ []) [] (cc (e1, none)) (begins_run 2 f [] text_of_one text_of_one 1 1 one deep) (λ tail command g a. ended tail g command a)
+  where
+    ended : (tail : Words) → GoesOn [] tail → (command : Command) → Accepted (codes "run" ∷ f ∷ tail) command → ⊥
+    ended _ ends command a = cc (run_of (f ∷ []) command a).words_are
 
 -- word 4 is the number of runs
-pub bad_4 : {words l1 l2 l3 : List (List ℕ)} {f e : List ℕ} → words ≡ codes "run" ∷ l1 → l1 ≡ f ∷ l2 → l2 ≡ e ∷ l3
-    → ((n : ℕ) (more : List (List ℕ)) → 1 ≤ n → n ≤ 1000000 → l3 ≡ decimal n ∷ more → ⊥) → BadWord words 4
-bad_4 {words} {l1} {l2} {l3} {f} {e} e1 e2 e3 differs =
-    bad_after words (codes "run" ∷ f ∷ e ∷ []) l3 (cc) (begins_first 3 f e 1 (omega arith) (omega arith))
-    (λ c a.
-    let g = form_of (codes "run" ∷ f ∷ e ∷ l3) c a in
-    let h = g.words_are in
-    differs g.runs (codes "-dfs" ∷ decimal g.depth ∷ []) g.runs_low g.runs_high (cc))
-    (λ w more h b.
-    let g = form_of _ _ b.2 in
-    let i : codes "run" ∷ f ∷ e ∷ w ∷ b.0 ≡ run_form g.file g.entry g.runs g.depth = g.words_are in
-    differs g.runs more g.runs_low g.runs_high (cc))
+pub run_4 : {l1 l2 l3 : Words} {f e : List ℕ} → l1 ≡ f ∷ l2 → l2 ≡ e ∷ l3
+    → ((w : List ℕ) (rest : Words) (n : ℕ) → l3 ≡ w ∷ rest → IsNumber w (pos 1) (pos 1000000) (pos n) → ⊥) → BadWord (codes "run" ∷ l1) 4
+run_4 {l1} {l2} {l3} {f} {e} e1 e2 none =
+    bad_after (codes "run" ∷ f ∷ e ∷ []) l3 (cc (e1, e2)) (begins_run 3 f e text_of_one text_of_one 1 1 one deep) (λ tail command g a. ended l3 tail g none command a)
+  where
+    ended : (l tail : Words) → GoesOn l tail → ((w : List ℕ) (rest : Words) (n : ℕ) → l ≡ w ∷ rest → IsNumber w (pos 1) (pos 1000000) (pos n) → ⊥)
+        → (command : Command) → Accepted (codes "run" ∷ f ∷ e ∷ tail) command → ⊥
+    ended _ _ ends none command a = cc (run_of (f ∷ e ∷ []) command a).words_are
+    ended _ _ (word w more later) none command a =
+        let r = run_of (f ∷ e ∷ w ∷ later) command a in
+        let same : r.n ≡ w = cc r.words_are in
+        none w more r.runs refl (subst (λ m. IsNumber m (pos 1) (pos 1000000) (pos r.runs)) same r.runs_is)
 
 -- word 5 is `-dfs`
-pub bad_5 : {words l1 l2 l3 l4 : List (List ℕ)} {f e : List ℕ} {n : ℕ} → words ≡ codes "run" ∷ l1 → l1 ≡ f ∷ l2 → l2 ≡ e ∷ l3
-    → 1 ≤ n → n ≤ 1000000 → l3 ≡ decimal n ∷ l4 → ((more : List (List ℕ)) → l4 ≡ codes "-dfs" ∷ more → ⊥) → BadWord words 5
-bad_5 {words} {l1} {l2} {l3} {l4} {f} {e} {n} e1 e2 e3 nl nh e4 differs =
-    bad_after words (codes "run" ∷ f ∷ e ∷ decimal n ∷ []) l4 (cc) (begins_first 4 f e n nl nh)
-    (λ c a.
-    let g = form_of (codes "run" ∷ f ∷ e ∷ decimal n ∷ l4) c a in
-    let h = g.words_are in
-    differs (decimal g.depth ∷ []) (cc))
-    (λ w more h b.
-    let g = form_of _ _ b.2 in
-    let i : codes "run" ∷ f ∷ e ∷ decimal n ∷ w ∷ b.0 ≡ run_form g.file g.entry g.runs g.depth = g.words_are in
-    differs more (cc))
+pub run_5 : {l1 l2 l3 l4 : Words} {f e w : List ℕ} {n : ℕ} → l1 ≡ f ∷ l2 → l2 ≡ e ∷ l3 → l3 ≡ w ∷ l4 → IsNumber w (pos 1) (pos 1000000) (pos n)
+    → ((rest : Words) → l4 ≡ codes "-dfs" ∷ rest → ⊥) → BadWord (codes "run" ∷ l1) 5
+run_5 {l1} {l2} {l3} {l4} {f} {e} {w} {n} e1 e2 e3 r none =
+    bad_after (codes "run" ∷ f ∷ e ∷ w ∷ []) l4 (cc (e1, e2, e3)) (begins_run 4 f e w text_of_one n 1 r deep) (λ tail command g a. ended l4 tail g none command a)
+  where
+    ended : (l tail : Words) → GoesOn l tail → ((rest : Words) → l ≡ codes "-dfs" ∷ rest → ⊥) → (command : Command) → Accepted (codes "run" ∷ f ∷ e ∷ w ∷ tail) command → ⊥
+    ended _ _ ends none command a = cc (run_of (f ∷ e ∷ w ∷ []) command a).words_are
+    ended _ _ (word u more later) none command a =
+        let r = run_of (f ∷ e ∷ w ∷ u ∷ later) command a in
+        let same : u ≡ codes "-dfs" = cc r.words_are in
+        none more (ap (λ (m : List ℕ). m ∷ more) same)
 
 -- word 6 is the depth
-pub bad_6 : {words l1 l2 l3 l4 l5 : List (List ℕ)} {f e : List ℕ} {n : ℕ} → words ≡ codes "run" ∷ l1 → l1 ≡ f ∷ l2 → l2 ≡ e ∷ l3
-    → 1 ≤ n → n ≤ 1000000 → l3 ≡ decimal n ∷ l4 → l4 ≡ codes "-dfs" ∷ l5
-    → ((d : ℕ) (more : List (List ℕ)) → 1 ≤ d → d ≤ 1024 → l5 ≡ decimal d ∷ more → ⊥) → BadWord words 6
-bad_6 {words} {l1} {l2} {l3} {l4} {l5} {f} {e} {n} e1 e2 e3 nl nh e4 e5 differs =
-    bad_after words (codes "run" ∷ f ∷ e ∷ decimal n ∷ codes "-dfs" ∷ []) l5 (cc) (begins_first 5 f e n nl nh)
-    (λ c a.
-    let g = form_of (codes "run" ∷ f ∷ e ∷ decimal n ∷ codes "-dfs" ∷ l5) c a in
-    let h = g.words_are in
-    differs g.depth [] g.depth_low g.depth_high (cc))
-    (λ w more h b.
-    let g = form_of _ _ b.2 in
-    let i : codes "run" ∷ f ∷ e ∷ decimal n ∷ codes "-dfs" ∷ w ∷ b.0 ≡ run_form g.file g.entry g.runs g.depth = g.words_are in
-    differs g.depth more g.depth_low g.depth_high (cc))
+pub run_6 : {l1 l2 l3 l4 l5 : Words} {f e w : List ℕ} {n : ℕ} → l1 ≡ f ∷ l2 → l2 ≡ e ∷ l3 → l3 ≡ w ∷ l4 → IsNumber w (pos 1) (pos 1000000) (pos n) → l4 ≡ codes "-dfs" ∷ l5
+    → ((u : List ℕ) (rest : Words) (n : ℕ) → l5 ≡ u ∷ rest → IsNumber u (pos 1) (pos 1024) (pos n) → ⊥) → BadWord (codes "run" ∷ l1) 6
+run_6 {l1} {l2} {l3} {l4} {l5} {f} {e} {w} {n} e1 e2 e3 r e4 none =
+    bad_after (codes "run" ∷ f ∷ e ∷ w ∷ codes "-dfs" ∷ []) l5 (cc (e1, e2, e3, e4)) (begins_run 5 f e w text_of_one n 1 r deep) (λ tail command g a. ended l5 tail g none command a)
+  where
+    ended : (l tail : Words) → GoesOn l tail → ((u : List ℕ) (rest : Words) (n : ℕ) → l ≡ u ∷ rest → IsNumber u (pos 1) (pos 1024) (pos n) → ⊥)
+        → (command : Command) → Accepted (codes "run" ∷ f ∷ e ∷ w ∷ codes "-dfs" ∷ tail) command → ⊥
+    ended _ _ ends none command a = cc (run_of (f ∷ e ∷ w ∷ codes "-dfs" ∷ []) command a).words_are
+    ended _ _ (word u more later) none command a =
+        let r = run_of (f ∷ e ∷ w ∷ codes "-dfs" ∷ u ∷ later) command a in
+        let same : r.d ≡ u = cc r.words_are in
+        none u more (r.bounds).depth refl (subst (λ m. IsNumber m (pos 1) (pos 1024) (pos (r.bounds).depth)) same r.depth_is)
 
--- there is no word 7
-pub bad_7 : {words l1 l2 l3 l4 l5 l6 : List (List ℕ)} {f e : List ℕ} {n d : ℕ} → words ≡ codes "run" ∷ l1 → l1 ≡ f ∷ l2 → l2 ≡ e ∷ l3
-    → 1 ≤ n → n ≤ 1000000 → l3 ≡ decimal n ∷ l4 → l4 ≡ codes "-dfs" ∷ l5
-    → 1 ≤ d → d ≤ 1024 → l5 ≡ decimal d ∷ l6 → (l6 ≡ [] → ⊥) → BadWord words 7
-bad_7 {words} {l1} {l2} {l3} {l4} {l5} {l6} {f} {e} {n} {d} e1 e2 e3 nl nh e4 e5 dl dh e6 has_more =
-    bad_after words (run_form f e n d) l6 (cc) (begins_run f e n d nl nh dl dh)
-    (λ c a. let g = (form_of (run_form f e n d ++ l6) c a).words_are in has_more (cc))
-    (λ w more h b.
-    let g = form_of _ _ b.2 in
-    let i : codes "run" ∷ f ∷ e ∷ decimal n ∷ codes "-dfs" ∷ decimal d ∷ w ∷ b.0 ≡ run_form g.file g.entry g.runs g.depth = g.words_are in
-    cc)
+-- `trace`: words 2, 3 and 4 are any words
+pub trace_2 : {l1 : Words} → l1 ≡ [] → BadWord (codes "trace" ∷ l1) 2
+trace_2 {l1} none = bad_after (codes "trace" ∷ []) [] (ap (λ (l : Words). codes "trace" ∷ l) none) (begins_trace 1 [] [] []) (λ tail command g a. ended tail g command a)
+  where
+    ended : (tail : Words) → GoesOn [] tail → (command : Command) → Accepted (codes "trace" ∷ tail) command → ⊥
+    ended _ ends command a = cc (trace_of [] command a).words_are
 
--- with no word 7 the words have the form
-pub form_whole : {words l1 l2 l3 l4 l5 l6 : List (List ℕ)} {f e : List ℕ} {n d : ℕ} → words ≡ codes "run" ∷ l1 → l1 ≡ f ∷ l2 → l2 ≡ e ∷ l3
-    → 1 ≤ n → n ≤ 1000000 → l3 ≡ decimal n ∷ l4 → l4 ≡ codes "-dfs" ∷ l5
-    → 1 ≤ d → d ≤ 1024 → l5 ≡ decimal d ∷ l6 → l6 ≡ [] → Accepted words (run_words n d)
-form_whole {words} {f = f} {e = e} {n = n} {d = d} e1 e2 e3 nl nh e4 e5 dl dh e6 none = accepted_run words f e n d nl nh dl dh (cc)
+pub trace_3 : {l1 l2 : Words} {f : List ℕ} → l1 ≡ f ∷ l2 → l2 ≡ [] → BadWord (codes "trace" ∷ l1) 3
+trace_3 {l1} {l2} {f} e1 none = bad_after (codes "trace" ∷ f ∷ []) [] (cc (e1, none)) (begins_trace 2 f [] []) (λ tail command g a. ended tail g command a)
+  where
+    ended : (tail : Words) → GoesOn [] tail → (command : Command) → Accepted (codes "trace" ∷ f ∷ tail) command → ⊥
+    ended _ ends command a = cc (trace_of (f ∷ []) command a).words_are
 
--- where the texts end, and where they don't
-pub none_left : (l : List (String Global)) → true ≡ (length l == 0) → texts l ≡ []
-none_left [] e = refl
-none_left (w ∷ l) e = absurd (grind (arith, nat_tests))
+pub trace_4 : {l1 l2 l3 : Words} {f e : List ℕ} → l1 ≡ f ∷ l2 → l2 ≡ e ∷ l3 → l3 ≡ [] → BadWord (codes "trace" ∷ l1) 4
+trace_4 {l1} {l2} {l3} {f} {e} e1 e2 none = bad_after (codes "trace" ∷ f ∷ e ∷ []) [] (cc (e1, e2, none)) (begins_trace 3 f e []) (λ tail command g a. ended tail g command a)
+  where
+    ended : (tail : Words) → GoesOn [] tail → (command : Command) → Accepted (codes "trace" ∷ f ∷ e ∷ tail) command → ⊥
+    ended _ ends command a = cc (trace_of (f ∷ e ∷ []) command a).words_are
 
-pub some_left : (l : List (String Global)) → false ≡ (length l == 0) → texts l ≡ [] → ⊥
-some_left [] e h = cc
-some_left (w ∷ l) e h = cc
+-- ---- the options
+
+take_behind : (fixed options : Words) (m : ℕ) → take (length fixed + m) (fixed ++ options) ≡ fixed ++ take m options
+take_behind [] options m = ap (λ n. take n options) (omega arith)
+take_behind (w ∷ fixed) options m =
+    let e : length (w ∷ fixed) + m ≡ suc (length fixed + m) = omega arith in
+    ap (λ n. take n (w ∷ (fixed ++ options))) e ∙ ap (λ (l : Words). w ∷ l) (take_behind fixed options m)
+
+fits_with : (table : List Row) (options : Words) (m : ℕ) → Fits table options → FitsWith table (take m options)
+fits_with table options m f = (drop m options, subst (Fits table) (sym (take-append-drop m options)) f)
+
+module _ (table : List Row) (fixed : Words) (build : (options : Words) → Fits table options → (command : Command) × Accepted (fixed ++ options) command)
+    (parse : (options : Words) (command : Command) → Accepted (fixed ++ options) command → Fits table options) where
+  begins_with : (options : Words) → FitsWith table options → Begins (fixed ++ options)
+  begins_with options b =
+      let a = build (options ++ b.0) b.1 in
+      (b.0, a.0, subst (λ (ws : Words). Accepted ws a.0) (sym (append_assoc fixed options b.0)) a.1)
+
+  with_begins : (options : Words) → Begins (fixed ++ options) → FitsWith table options
+  with_begins options b = (b.0, parse (options ++ b.0) b.1 (subst (λ (ws : Words). Accepted ws b.1) (append_assoc fixed options b.0) b.2))
+
+  pub bad_options : (options : Words) (m : ℕ) → IsBadAt table options m → BadWord (fixed ++ options) (length fixed + m + 1)
+  bad_options options m b = record {
+    refused = λ command a.
+        let f = parse options command a in
+        ⊎_elim (λ p. p.1 (fits_with table options (m + 1) f)) (λ p. p.1 f) b.here;
+    before = λ k h.
+        let le : k ≤ length fixed + m = omega arith in
+        first k le;
+    here = ⊎_elim (λ p. inl (omega (arith, length-append fixed options, p.0), λ g. p.1 (with_begins (take (m + 1) options) (subst Begins shown g))))
+        (λ p. inr (omega (arith, length-append fixed options, p.0))) b.here;
+  }
+    where
+      shown : take (length fixed + m + 1) (fixed ++ options) ≡ fixed ++ take (m + 1) options
+      shown = ap (λ n. take n (fixed ++ options)) (omega arith) ∙ take_behind fixed options (m + 1)
+
+      first : (k : ℕ) → k ≤ length fixed + m → Begins (take k (fixed ++ options))
+      first k le =
+          let more : fixed ++ options ≡ (fixed ++ take m options) ++ drop m options = ap (λ (l : Words). fixed ++ l) (sym (take-append-drop m options)) ∙ sym (append_assoc fixed (take m options) (drop m options)) in
+          let size : k ≤ length (fixed ++ take m options) = in_size k le in
+          subst Begins (sym (ap (take k) more ∙ take-append-le k (fixed ++ take m options) (drop m options) size)) (begins_take (fixed ++ take m options) k (begins_with (take m options) b.before))
+        where
+          in_size : (k : ℕ) → k ≤ length fixed + m → k ≤ length (fixed ++ take m options)
+          in_size k le =
+              let within : m ≤ length options = ⊎_elim (λ p. omega (arith, p.0)) (λ p. omega (arith, p.0)) b.here in
+              omega (arith, le, length-append fixed (take m options), length_take m options within)
+
+-- a bad word of the options of `run`
+pub run_bad : {l1 l2 l3 l4 l5 l6 : Words} {f e w u : List ℕ} {n d m : ℕ} → l1 ≡ f ∷ l2 → l2 ≡ e ∷ l3 → l3 ≡ w ∷ l4 → IsNumber w (pos 1) (pos 1000000) (pos n) → l4 ≡ codes "-dfs" ∷ l5
+    → l5 ≡ u ∷ l6 → IsNumber u (pos 1) (pos 1024) (pos d) → IsBadAt run_options l6 m → BadWord (codes "run" ∷ l1) (m + 7)
+run_bad {l1} {l2} {l3} {l4} {l5} {l6} {f} {e} {w} {u} {n} {d} {m} e1 e2 e3 r e4 e5 s b =
+    let whole : codes "run" ∷ l1 ≡ codes "run" ∷ f ∷ e ∷ w ∷ codes "-dfs" ∷ u ∷ l6 = cc (e1, e2, e3, e4, e5) in
+    let bad : BadWord (codes "run" ∷ f ∷ e ∷ w ∷ codes "-dfs" ∷ u ∷ l6) (6 + m + 1) = bad_options run_options (codes "run" ∷ f ∷ e ∷ w ∷ codes "-dfs" ∷ u ∷ []) (λ o h. accepted_run f e w u o n d r s h) (λ o c a. parsed o c a) l6 m b in
+    subst (λ (ws : Words). BadWord ws (m + 7)) (sym whole) (subst (BadWord (codes "run" ∷ f ∷ e ∷ w ∷ codes "-dfs" ∷ u ∷ l6)) (omega arith) bad)
+  where
+    parsed : (o : Words) (command : Command) → Accepted (codes "run" ∷ f ∷ e ∷ w ∷ codes "-dfs" ∷ u ∷ o) command → Fits run_options o
+    parsed o command a =
+        let g = run_of (f ∷ e ∷ w ∷ codes "-dfs" ∷ u ∷ o) command a in
+        let same : g.options ≡ o = cc g.words_are in
+        subst (Fits run_options) same (run_fits g.options g.bounds g.budget g.named g.bounds_are g.budget_is)
+
+-- a bad word of the options of `trace`
+pub trace_bad : {l1 l2 l3 l4 : Words} {f e w : List ℕ} {m : ℕ} → l1 ≡ f ∷ l2 → l2 ≡ e ∷ l3 → l3 ≡ w ∷ l4 → IsBadAt trace_options l4 m → BadWord (codes "trace" ∷ l1) (m + 5)
+trace_bad {l1} {l2} {l3} {l4} {f} {e} {w} {m} e1 e2 e3 b =
+    let whole : codes "trace" ∷ l1 ≡ codes "trace" ∷ f ∷ e ∷ w ∷ l4 = cc (e1, e2, e3) in
+    let bad : BadWord (codes "trace" ∷ f ∷ e ∷ w ∷ l4) (4 + m + 1) = bad_options trace_options (codes "trace" ∷ f ∷ e ∷ w ∷ []) (λ o h. accepted_trace f e w o h) (λ o c a. parsed o c a) l4 m b in
+    subst (λ (ws : Words). BadWord ws (m + 5)) (sym whole) (subst (BadWord (codes "trace" ∷ f ∷ e ∷ w ∷ l4)) (omega arith) bad)
+  where
+    parsed : (o : Words) (command : Command) → Accepted (codes "trace" ∷ f ∷ e ∷ w ∷ o) command → Fits trace_options o
+    parsed o command a =
+        let g = trace_of (f ∷ e ∷ w ∷ o) command a in
+        let same : g.options ≡ o = cc g.words_are in
+        subst (Fits trace_options) same (trace_fits g.options g.bounds g.named g.bounds_are g.depth_is)
+
+-- ---- the whole list
+
+pub run_whole : {l1 l2 l3 l4 l5 l6 : Words} {f e w u : List ℕ} {n budget : ℕ} {bounds : Limits} → l1 ≡ f ∷ l2 → l2 ≡ e ∷ l3 → l3 ≡ w ∷ l4 → IsNumber w (pos 1) (pos 1000000) (pos n) → l4 ≡ codes "-dfs" ∷ l5
+    → l5 ≡ u ∷ l6 → IsNumber u (pos 1) (pos 1024) (pos bounds.depth) → AreNamed run_options l6 → AreBounds l6 bounds → IsGiven l6 solver_option (pos budget)
+    → Accepted (codes "run" ∷ l1) (run_words n bounds budget)
+run_whole {l1} {l2} {l3} {l4} {l5} {l6} {f} {e} {w} {u} {n} {budget} {bounds} e1 e2 e3 r e4 e5 s a g b =
+    let whole : codes "run" ∷ l1 ≡ codes "run" ∷ f ∷ e ∷ w ∷ codes "-dfs" ∷ u ∷ l6 = cc (e1, e2, e3, e4, e5) in
+    subst (λ (ws : Words). Accepted ws (run_words n bounds budget)) (sym whole) (run f e w u l6 n budget bounds r s a g b)
+
+pub trace_whole : {l1 l2 l3 l4 : Words} {f e w : List ℕ} {bounds : Limits} → l1 ≡ f ∷ l2 → l2 ≡ e ∷ l3 → l3 ≡ w ∷ l4 → AreNamed trace_options l4 → AreBounds l4 bounds → IsGiven l4 depth_option (pos bounds.depth)
+    → Accepted (codes "trace" ∷ l1) (trace_words bounds)
+trace_whole {l1} {l2} {l3} {l4} {f} {e} {w} {bounds} e1 e2 e3 a g b =
+    let whole : codes "trace" ∷ l1 ≡ codes "trace" ∷ f ∷ e ∷ w ∷ l4 = cc (e1, e2, e3) in
+    subst (λ (ws : Words). Accepted ws (trace_words bounds)) (sym whole) (trace f e w l4 bounds a g b)
+
+-- ---- once
 
 -- no bad word stands before another
-not_below : (words : List (List ℕ)) (m n : ℕ) → BadWord words m → BadWord words n → m < n → ⊥
+not_below : (words : Words) (m n : ℕ) → BadWord words m → BadWord words n → m < n → ⊥
 not_below words m n a b h =
     let begun = b.before m h in
     elim a.here [ inl p ↦ p.1 begun | inr e ↦ elim b.here [ inl q ↦ let le : n ≤ length words = q.0 in omega arith | inr g ↦ omega arith ] ]
 
 -- a list has one bad word at most
-pub bad_word_once : (words : List (List ℕ)) (m n : ℕ) → BadWord words m → BadWord words n → m ≡ n
+pub bad_word_once : (words : Words) (m n : ℕ) → BadWord words m → BadWord words n → m ≡ n
 bad_word_once words m n a b =
     let below : m < n → ⊥ = not_below words m n a b in
     let above : n < m → ⊥ = not_below words n m b a in
     omega arith
 
--- an accepted list gives one command
-pub accepted_once : (words : List (List ℕ)) (c d : Command) → Accepted words c → Accepted words d → c ≡ d
-accepted_once words c d a b =
-    let f = form_of words c a in
-    let g = form_of words d b in
-    let same : run_form f.file f.entry f.runs f.depth
-    ≡ run_form g.file g.entry g.runs g.depth = sym f.words_are ∙ g.words_are in
-    let runs_text : decimal f.runs ≡ decimal g.runs = cc in
-    let depth_text : decimal f.depth ≡ decimal g.depth = cc in
-    let runs_same = decimal_injective f.runs g.runs (omega (arith, f.runs_high)) (omega (arith, g.runs_high)) runs_text in
-    let depth_same = decimal_injective f.depth g.depth (omega (arith, f.depth_high)) (omega (arith, g.depth_high)) depth_text in
-    let commands : run_words f.runs f.depth ≡ run_words g.runs g.depth = cc in
+run_once : (words : Words) (c d : Command) → IsRun words c → IsRun words d → c ≡ d
+run_once words c d f g =
+    let same : codes "run" ∷ f.file ∷ f.entry ∷ f.n ∷ codes "-dfs" ∷ f.d ∷ f.options ≡ codes "run" ∷ g.file ∷ g.entry ∷ g.n ∷ codes "-dfs" ∷ g.d ∷ g.options = sym f.words_are ∙ g.words_are in
+    let n_same : g.n ≡ f.n = cc same in
+    let d_same : g.d ≡ f.d = cc same in
+    let o_same : g.options ≡ f.options = cc same in
+    let runs : pos f.runs ≡ pos g.runs = one_number f.n (pos 1) (pos 1000000) (pos f.runs) (pos g.runs) (omega arith) (omega arith) f.runs_is (subst (λ w. IsNumber w (pos 1) (pos 1000000) (pos g.runs)) n_same g.runs_is) in
+    let depths : pos (f.bounds).depth ≡ pos (g.bounds).depth = one_number f.d (pos 1) (pos 1024) (pos (f.bounds).depth) (pos (g.bounds).depth) (omega arith) (omega arith) f.depth_is (subst (λ w. IsNumber w (pos 1) (pos 1024) (pos (g.bounds).depth)) d_same g.depth_is) in
+    let depth : (f.bounds).depth ≡ (g.bounds).depth = cc depths in
+    let bounds : f.bounds ≡ g.bounds = bounds_once f.options f.bounds g.bounds f.bounds_are (subst (λ (ws : Words). AreBounds ws g.bounds) o_same g.bounds_are) depth in
+    let budgets : pos f.budget ≡ pos g.budget = given_once f.options solver_option (pos f.budget) (pos g.budget) (omega arith) (omega arith) f.budget_is (subst (λ (ws : Words). IsGiven ws solver_option (pos g.budget)) o_same g.budget_is) in
+    let run_same : f.runs ≡ g.runs = cc runs in
+    let budget : f.budget ≡ g.budget = cc budgets in
+    let commands : run_words f.runs f.bounds f.budget ≡ run_words g.runs g.bounds g.budget = λ i. run_words (run_same i) (bounds i) (budget i) in
     f.command_is ∙ commands ∙ sym g.command_is
+
+trace_once : (words : Words) (c d : Command) → IsTrace words c → IsTrace words d → c ≡ d
+trace_once words c d f g =
+    let same : codes "trace" ∷ f.file ∷ f.entry ∷ f.input ∷ f.options ≡ codes "trace" ∷ g.file ∷ g.entry ∷ g.input ∷ g.options = sym f.words_are ∙ g.words_are in
+    let o_same : g.options ≡ f.options = cc same in
+    let depths : pos (f.bounds).depth ≡ pos (g.bounds).depth = given_once f.options depth_option (pos (f.bounds).depth) (pos (g.bounds).depth) (omega arith) (omega arith) f.depth_is (subst (λ (ws : Words). IsGiven ws depth_option (pos (g.bounds).depth)) o_same g.depth_is) in
+    let depth : (f.bounds).depth ≡ (g.bounds).depth = cc depths in
+    let bounds : f.bounds ≡ g.bounds = bounds_once f.options f.bounds g.bounds f.bounds_are (subst (λ (ws : Words). AreBounds ws g.bounds) o_same g.bounds_are) depth in
+    f.command_is ∙ ap trace_words bounds ∙ sym g.command_is
+
+-- an accepted list gives one command
+pub accepted_once : (words : Words) (c d : Command) → Accepted words c → Accepted words d → c ≡ d
+accepted_once words c d a b = by_form (form_of words c a) (form_of words d b)
+  where
+    by_form : IsRun words c ⊎ IsTrace words c → IsRun words d ⊎ IsTrace words d → c ≡ d
+    by_form (inl f) (inl g) = run_once words c d f g
+    by_form (inr f) (inr g) = trace_once words c d f g
+    by_form (inl f) (inr g) = let e = sym f.words_are ∙ g.words_are in absurd (cc e)
+    by_form (inr f) (inl g) = let e = sym f.words_are ∙ g.words_are in absurd (cc e)
+
+-- ---- an answer
+
+-- what was read, as each clause of the call says it
+pub answer_only : (words : Words) (r : Result Command ℕ) → IfOk r (λ c. Accepted words c) → IfErr r (λ n. BadWord words n) → (c : Command) → Accepted words c → r ≡ Ok c
+answer_only words (Ok d) a b c h = ap Ok (accepted_once words d c a h)
+answer_only words (Err n) a b c h = absurd (b.refused c h)
+
+pub answer_bad : (words : Words) (r : Result Command ℕ) → IfOk r (λ c. Accepted words c) → IfErr r (λ n. BadWord words n) → (n : ℕ) → BadWord words n → r ≡ Err n
+answer_bad words (Ok d) a b n h = absurd (h.refused d a)
+answer_bad words (Err m) a b n h = ap Err (bad_word_once words m n b h)

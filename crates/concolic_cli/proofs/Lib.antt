@@ -1,16 +1,17 @@
 pub mod Numerals
+pub mod NamedWords
+mod OptionFits
+mod OptionReads
+mod OptionTables
 pub mod Forms
-mod SumKinds
-mod SumNotes
-mod SumFiles
-mod SumChecked
-mod SumReads
-mod SumRuns
-mod SumBytes
-mod SumPrograms
-mod OneListing
-mod ReportText
+mod OneRun
+mod OneText
+mod MapRefusals
+mod TraceLines
+mod Asking
 mod Written
-mod Ended
+mod Causes
+mod Reports
+mod Commands
 mod Calls
 mod Promises

@@ -1,46 +1,33 @@
--- A text is a number exactly where `parse` reads it and it has no sign and no leading zero.
-use Rattle.std.proofs.Common.{◌≡◌, ℕ, ◌^◌, ◌<◌, List, length, get_or, arith, zero, suc, sym, subst, refl, ◌∙◌, Result, Ok, Err, Option, Some, ap}
+-- A word is a number in a range exactly where it is read as one in it whose text it is.
+use Rattle.std.proofs.Common.{◌≡◌, ℕ, ◌^◌, ◌<◌, ℤ, pos, negsuc, ◌≤ℤ◌, List, arith, sym, ◌∙◌, ap, Result, Option, Some}
 use Rattle.std.specs.Result.{result_ok}
-use Rattle.std.specs.Fmt.{decimal}
-use Rattle.concolic_cli.specs.Plain.{IsPlain}
-use Rattle.std.specs.Str.Parse.{AllDigits, digits_value, ParsesUnsigned}
-use Rattle.std.proofs.lemmas.Str.Parse.{IsNumeralModel, numerals_by_value, tells_digits, parse_plain}
-use Rattle.std.proofs.lemmas.Fmt.{decimal-digits_value, parse-decimal, first_decimal, decimal_digit, decimal_nonempty}
+use Rattle.std.specs.Fmt.{signed_decimal}
+use Rattle.std.specs.Str.Parse.{ParsesSigned}
+use Rattle.std.proofs.lemmas.Fmt.{parse-signed_decimal, signed_decimal_injective}
+use Rattle.std.proofs.lemmas.Int.{ints}
+use mir.Syntax.{w32}
+use mir.Val.{SFits}
+use lib.Signed.{mag}
+use Rattle.concolic_cli.specs.Words.{IsNumber}
 
--- std's words for digits and their value
-own : IsNumeralModel (AllDigits 10) (digits_value 10)
-own = numerals_by_value _ tells_digits
+-- a number between numbers of 32 bits
+pub mag_between : (low high z : ℤ) → mag low < 2 ^ 31 → mag high < 2 ^ 31 → low ≤ℤ z → z ≤ℤ high → mag z < 2 ^ 31
+mag_between low (pos n) (pos z) a b l h = omega (arith, ints, b, h)
+mag_between low (negsuc n) (pos z) a b l h = absurd (omega (arith, ints, h))
+mag_between (pos n) high (negsuc z) a b l h = absurd (omega (arith, ints, l))
+mag_between (negsuc n) high (negsuc z) a b l h = omega (arith, ints, a, l)
 
--- a text with no sign and no leading zero that is read as n is the decimal text of n
-pub text_of_read : {E : Type 0} (bs : List ℕ) (r : Result ℕ E) (o : Option ℕ) (n : ℕ) → ParsesUnsigned 32 10 bs r → o ≡ result_ok r → o ≡ Some n
-    → IsPlain bs → bs ≡ decimal n
-text_of_read {E} bs (Ok m) o n h was is plain =
-    let k = parse_plain own {E = E} 32 bs (Ok m) h plain.0 in
-    let below : digits_value 10 bs < 2 ^ 64 = omega (arith, k.0.2) in
-    let back : decimal (digits_value 10 bs) ≡ bs = decimal-digits_value own bs k.0.0 k.0.1 plain.1 below in
-    let value : m ≡ digits_value 10 bs = k.1 in
-    let same : m ≡ n = cc in
-    sym back ∙ ap decimal (sym value ∙ same)
-text_of_read bs (Err e) o n h was is plain = cc
+-- the word of a number in the range is read as the number
+pub read_number : {E : Type 0} (word : List ℕ) (low high z : ℤ) (r : Result ℤ E) (o : Option ℤ) → ParsesSigned w32 10 word r → o ≡ result_ok r
+    → SFits w32 low → SFits w32 high → IsNumber word low high z → o ≡ Some z
+read_number word low high z r o h was a b is =
+    let m : mag z < 2 ^ 31 = mag_between low high z a.sfits b.sfits is.at_least is.at_most in
+    was ∙ ap result_ok (parse-signed_decimal w32 z word r (record { sfits = m }) (omega (arith, m)) is.text h)
 
--- the decimal text of n is read as n
-pub read_of_text : {E : Type 0} (bs : List ℕ) (r : Result ℕ E) (o : Option ℕ) (n : ℕ) → ParsesUnsigned 32 10 bs r → o ≡ result_ok r
-    → n < 2 ^ 32 → bs ≡ decimal n → o ≡ Some n
-read_of_text bs r o n h was below e = was ∙ ap result_ok (parse-decimal 32 n bs r below (omega arith) e h)
+-- numbers of 32 bits with one text are one
+pub text_once : (y z : ℤ) → mag y < 2 ^ 31 → mag z < 2 ^ 31 → signed_decimal y ≡ signed_decimal z → y ≡ z
+text_once y z a b e = signed_decimal_injective y z (omega (arith, a)) (omega (arith, b)) e
 
--- of 0, and of a number that doesn't begin with 0
-plain_at : (n : ℕ) → n < 2 ^ 32 → IsPlain (decimal n)
-plain_at zero h =
-    let e = decimal_digit 0 (omega arith) in
-    subst IsPlain (sym e) (omega arith, λ _. refl)
-plain_at (suc k) h =
-    let first : 48 < get_or (decimal (suc k)) 0 0 = first_decimal (suc k) (omega arith) (omega arith) in
-    (omega arith, λ e. absurd (omega arith))
-
--- the text of a number has no sign and no leading zero
-pub plain_decimal : (bs : List ℕ) (n : ℕ) → n < 2 ^ 32 → bs ≡ decimal n → IsPlain bs
-plain_decimal bs n h e = subst IsPlain (sym e) (plain_at n h)
-
--- and some digits
-pub decimal_has : (bs : List ℕ) (n : ℕ) → n < 2 ^ 32 → bs ≡ decimal n → 0 < length bs
-decimal_has bs n h e = let P : List ℕ → Type 0 = λ bs. 0 < length bs in subst P (sym e) (decimal_nonempty n (omega arith))
+pub one_number : (word : List ℕ) (low high y z : ℤ) → mag low < 2 ^ 31 → mag high < 2 ^ 31 → IsNumber word low high y → IsNumber word low high z → y ≡ z
+one_number word low high y z a b p q =
+    text_once y z (mag_between low high y a b p.at_least p.at_most) (mag_between low high z a b q.at_least q.at_most) (sym p.text ∙ q.text)

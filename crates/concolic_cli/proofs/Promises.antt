@@ -1,27 +1,37 @@
 -- Each promise of a call, from what it comes to.
-use Rattle.std.proofs.Common.{true, ◌≡◌, ℕ, zero, suc, ◌<◌, ◌≤◌, ◌⊎◌, inl, inr, ⊎_elim, List, [], ◌∷◌, ◌++◌, length, Option, Some, None, Ok, sym, ap, subst, ◌∙◌, arith, codes, slice_get, Bool}
-use Rattle.cc_model.specs.declared.commands.Command.TheVariants.{Run}
-use Rattle.cc_model.specs.declared.commands.RunWords.{RunWords}
-use Rattle.cc_model.specs.declared.tokens.Token.{Token}
-use Rattle.cc_model.specs.declared.trees.Program as source_program
+use borrow.Author.Tests.{eqb-true}
+use Rattle.std.proofs.Common.{true, ◌≡◌, ℕ, ◌+◌, ◌<◌, ◌≤◌, ◌⊎◌, ◌↔◌, inl, inr, ⊎_elim, List, [], ◌∷◌, ◌++◌, length, Option, Some, None, Ok, sym, ap, subst, ◌∙◌, arith, codes, Bool, false, nat_eq, if◌then◌else◌, refl}
+use Rattle.cc_base.specs.declared.inputs.Input.{Input}
 use Rattle.cc_base.specs.Limits.{Limits}
 use Rattle.cc_base.specs.Paths.{In}
+use Rattle.cc_model.specs.declared.commands.Command.TheVariants.{Run, Trace}
+use Rattle.cc_model.specs.declared.commands.RunWords.{RunWords}
+use Rattle.cc_model.specs.declared.commands.TraceWords.{TraceWords}
+use Rattle.cc_model.specs.declared.tokens.Token.{Token}
+use Rattle.cc_model.specs.declared.trees.Program as source_program
 use Rattle.cc_model.specs.Core.{Program}
-use Rattle.cc_model.specs.Lexical.{tokens_of}
-use Rattle.cc_model.specs.OneSum.{IsOneSum}
-use Rattle.cc_model.specs.Reads.{Reads, Accepts, shallow}
-use Rattle.cc_model.specs.Report.{newline}
 use Rattle.cc_model.specs.Faults.{WellTyped, has_entry}
-use Rattle.cc_model.specs.Listing.{Listing}
-use Rattle.cc_model.specs.Source.{IsProgram, Refuses, lexical, syntax, too_deep, fault, not_yet, no_entry, text_at}
-use Rattle.cc_model.specs.Words.{Accepted, BadWord}
+use Rattle.cc_model.specs.Lexical.{tokens_of}
+use Rattle.cc_model.specs.Listing.{Counts, counts_of}
+use Rattle.cc_model.specs.Reads.{Reads, Accepts, shallow}
+use Rattle.cc_model.specs.Report.{newline, total, has_fault, is_fault}
+use Rattle.cc_model.specs.Runs.{IsInput, end_at}
+use Rattle.cc_model.specs.Source.{IsProgram, text_at}
 use Rattle.cc_outside.specs.Faults.{Rose}
 use Rattle.cc_outside.specs.Held.{Held, file_of}
-use Rattle.concolic_cli.specs.Concolic.{Call, word_of, IsSource, IsSession, Headline, PartOfReport, nothing, part, SourceIsRefused, FileFault, FileIsRefused}
+use Rattle.cc_outside.specs.Told.{appended}
+use Rattle.input_map.specs.declared.faults.MapFault.{MapFault}
+use Rattle.input_map.specs.CellFaults.{Refused}
+use Rattle.input_map.specs.Maps.{IsMap}
+use Rattle.concolic_cli.specs.Concolic.{Call, HasNoCommand, IsSource, IsSourceOf, Headline, PartStands, SourceIsRefused, FileFault, FileIsRefused, IsRefusal}
+use Rattle.concolic_cli.specs.Listings.{AsksNothing}
 use Rattle.concolic_cli.specs.Refusals.{bad_word_text, Says}
-use Rattle.concolic_cli.specs.Session.{ReadAs, Lists}
-use Rattle.concolic_cli.proofs.Forms.{accepted_once}
-use Rattle.concolic_cli.proofs.Calls.{Ending, at_words, at_report, at_source, at_file, at_output, at_memory}
+use Rattle.concolic_cli.specs.Session.{ReadAs, Wrote, nothing, part}
+use Rattle.concolic_cli.specs.Sources.{Refuses, lexical, syntax, too_deep, fault, no_entry}
+use Rattle.concolic_cli.specs.Tasks.{Task, Work, list, trace, Asks, asks_list, asks_trace, word_of, list_task, trace_task, IsReport, RefusesTask}
+use Rattle.concolic_cli.specs.Words.{Accepted, BadWord}
+use Rattle.concolic_cli.proofs.Calls.{Ending, at_words, at_report, at_source, at_file, at_output, at_memory, apart, run_in, small_of, small_in, trace_status}
+use Rattle.concolic_cli.proofs.Commands.{OneCommand, of_list, of_trace, one_task, has_command}
 
 -- ---- a source is no program and a refusal at once
 
@@ -33,245 +43,371 @@ OneProgram = (fits : ℕ → ℕ → Bool) (tokens : List Token) (p q : source_p
 read_unread : (bytes entry : List ℕ) (p : Program) → (i : IsProgram bytes entry p) → (tokens : List Token) → tokens_of bytes ≡ Ok tokens → ((tree : source_program.Program) → Accepts tokens tree → ⊥) → ⊥
 read_unread bytes entry p i tokens h none = let same : i.tokens ≡ tokens = cc (i.lexed, h) in none (i.checked).program (subst (λ u. Accepts u (i.checked).program) same i.read)
 
--- and one program alone
-read_once : OneProgram → (bytes entry : List ℕ) (p : Program) → (i : IsProgram bytes entry p) → (tokens : List Token) (tree : source_program.Program) → tokens_of bytes ≡ Ok tokens → Accepts tokens tree →
-    (i.tokens ≡ tokens) × ((i.checked).program ≡ tree)
-read_once one bytes entry p i tokens tree h read = let same : i.tokens ≡ tokens = cc (i.lexed, h) in (same, one shallow tokens (i.checked).program tree (subst (λ u. Accepts u (i.checked).program) same i.read) read)
-
 -- the program has no fault, and its tested function has a body
 none_faulty : OneProgram → (bytes entry : List ℕ) (p : Program) → (i : IsProgram bytes entry p) → (tokens : List Token) (tree : source_program.Program) → tokens_of bytes ≡ Ok tokens → Accepts tokens tree →
     WellTyped (text_at bytes tokens) tree.items × (has_entry (text_at bytes tokens) tree.items entry ≡ true)
 none_faulty one bytes entry p i tokens tree h read =
-    let same = read_once one bytes entry p i tokens tree h read in
+    let same : i.tokens ≡ tokens = cc (i.lexed, h) in
+    let alike = one shallow tokens (i.checked).program tree (subst (λ u. Accepts u (i.checked).program) same i.read) read in
     let P : List Token → source_program.Program → Type 0 = λ k u. WellTyped (text_at bytes k) u.items × (has_entry (text_at bytes k) u.items entry ≡ true) in
-    subst (λ k. P k tree) same.0 (subst (λ u. P i.tokens u) same.1 ((i.right).well_typed, (i.right).has_body))
+    subst (λ k. P k tree) same (subst (λ u. P i.tokens u) alike ((i.right).well_typed, (i.right).has_body))
 
--- one that is run so far is refused in no way
-accepted_refused : OneProgram → (bytes entry : List ℕ) (p : Program) (text : List ℕ) → (i : IsProgram bytes entry p) → IsOneSum ((i.checked).program).items → Refuses bytes entry text → ⊥
-accepted_refused one bytes entry p _ i kind (lexical f h) = cc (i.lexed, h)
-accepted_refused one bytes entry p _ i kind (syntax tokens place h none) = read_unread bytes entry p i tokens h none
-accepted_refused one bytes entry p _ i kind (too_deep tokens place h none) = read_unread bytes entry p i tokens h none
-accepted_refused one bytes entry p _ i kind (fault tokens tree f h read first) = subst (λ l. In f l) (none_faulty one bytes entry p i tokens tree h read).0 first.0
-accepted_refused one bytes entry p _ i kind (no_entry tokens tree h read well none) = let body = (none_faulty one bytes entry p i tokens tree h read).1 in cc (body, none)
-accepted_refused one bytes entry p _ i kind (not_yet tokens tree h read well body other) = other (subst (λ u. IsOneSum u.items) (read_once one bytes entry p i tokens tree h read).1 kind)
+unrefused : OneProgram → (bytes entry : List ℕ) (p : Program) (text : List ℕ) → IsProgram bytes entry p → Refuses bytes entry text → ⊥
+unrefused one bytes entry p _ i (lexical f h) = cc (i.lexed, h)
+unrefused one bytes entry p _ i (syntax tokens place h none) = read_unread bytes entry p i tokens h none
+unrefused one bytes entry p _ i (too_deep tokens place h none) = read_unread bytes entry p i tokens h none
+unrefused one bytes entry p _ i (fault tokens tree f h read first) = subst (λ l. In f l) (none_faulty one bytes entry p i tokens tree h read).0 first.0
+unrefused one bytes entry p _ i (no_entry tokens tree h read well none) = let body = (none_faulty one bytes entry p i tokens tree h read).1 in cc (body, none)
 
--- a source whose listing was written is refused in no way
-listed_refused : OneProgram → (bytes entry bytes' entry' : List ℕ) (b : Limits) (runs : ℕ) (p : Program) (l : Listing) (text : List ℕ) → bytes ≡ bytes' → entry ≡ entry' → Lists bytes entry b runs p l → Refuses bytes' entry' text → ⊥
-listed_refused one bytes entry bytes' entry' b runs p l text same named lists r =
-    accepted_refused one bytes entry p text lists.program lists.kind (subst (λ u. Refuses u entry text) (sym same) (subst (λ u. Refuses bytes' u text) (sym named) r))
+-- what is written is written for a program
+reported_unrefused : OneProgram → (bytes entry : List ℕ) (w : Work) (text other : List ℕ) (status : ℕ) → IsReport bytes entry w text status → Refuses bytes entry other → ⊥
+reported_unrefused one bytes entry (list b runs budget) text other status h r = unrefused one bytes entry h.program other h.source r
+reported_unrefused one bytes entry (trace b map) text other status h r = unrefused one bytes entry h.program other h.source r
 
--- the words are those of one session
-one_run : (words : List (List ℕ)) (r s : RunWords) → Accepted words (Run r) → Accepted words (Run s) → r ≡ s
-one_run words r s a b = cc (accepted_once words (Run r) (Run s) a b)
+-- a program that asks nothing is listed, and one with an input of the map text is traced
+list_unrefused : OneProgram → (bytes entry : List ℕ) (b : Limits) (runs budget : ℕ) (text : List ℕ) → IsSourceOf bytes entry (λ p. AsksNothing p b) → RefusesTask bytes entry (list b runs budget) text → ⊥
+list_unrefused one bytes entry b runs budget text s (inl r) = unrefused one bytes entry s.program text s.source r
+list_unrefused one bytes entry b runs budget text s (inr r) = (r.0).asks (s.each (r.0).program (r.0).source)
 
--- what was read is what the files hold
-same_bytes : (words : List (List ℕ)) (r s : RunWords) (held : Option Held) (h : Held) (b c : List ℕ) → Accepted words (Run r) → Accepted words (Run s) → held ≡ Some h →
-    file_of (word_of words r.file) h ≡ Some b → ReadAs held (word_of words s.file) c → c ≡ b
-same_bytes words r s held h b c a d told here read =
-    let same = one_run words r s a d in
-    let there : file_of (word_of words s.file) h ≡ Some c = read.told h told in
-    let here' : file_of (word_of words s.file) h ≡ Some b = subst (λ u. file_of (word_of words u.file) h ≡ Some b) same here in
-    cc (there, here')
+trace_unrefused : OneProgram → (bytes entry : List ℕ) (b : Limits) (map text : List ℕ) (h : Input) → IsMap map h → IsSourceOf bytes entry (λ p. IsInput p b h) → RefusesTask bytes entry (trace b map) text → ⊥
+trace_unrefused one bytes entry b map text h m s (inl r) = unrefused one bytes entry s.program text s.source r
+trace_unrefused one bytes entry b map text h m s (inr r) = (r.1).none h m (s.each (r.1).program (r.1).source)
+
+-- ---- the counts of a complete listing
+
+abbrev counts : (terms spent steps strays unrun : ℕ) → Counts
+counts a b c d e = record { terms = a; spent = b; steps = c; strays = d; unrun = e }
+
+zeros : (a b c d e : ℕ) → a ≡ 0 → b ≡ 0 → c ≡ 0 → d ≡ 0 → e ≡ 0 → counts a b c d e ≡ counts 0 0 0 0 0
+zeros a b c d e ha hb hc hd he = cc (ha, hb, hc, hd, he)
+
+all_zero : (c : Counts) → total c ≡ 0 → c ≡ counts 0 0 0 0 0
+all_zero c h = zeros c.terms c.spent c.steps c.strays c.unrun (omega (arith, h)) (omega (arith, h)) (omega (arith, h)) (omega (arith, h)) (omega (arith, h))
+
+ten : (c b : Bool) (k : ℕ) → k ≡ (if c then 0 else 10) + (if b then 1 else 0) → k ≤ 1 → c ≡ true
+ten true b k e l = refl
+ten false true k e l = absurd (omega (arith, e, l))
+ten false false k e l = absurd (omega (arith, e, l))
+
+total_zero : (n : ℕ) (b : Bool) (k : ℕ) → k ≡ (if nat_eq n 0 then 0 else 10) + (if b then 1 else 0) → k ≤ 1 → n ≡ 0
+total_zero n b k e l = eqb-true n 0 (ten (nat_eq n 0) b k e l)
 
 -- ---- the promises
 
-module _ (call : Call) (status : ℕ) (answered : Ending call status) where
+module _ (call : Call) (status : ℕ) (one : OneCommand) (answered : Ending call status) where
   abbrev Said : List ℕ → Type 0
   Said line = Says call.err_old call.err_new call.err_faults_old call.err_faults_new line
 
+  abbrev Written : Task → Type 0
+  Written task = Wrote (call.seen).held (call.seen).out_old (call.seen).out_new task status
+
   words_bad : (e : Ending call status) → status ≡ 2 → (n : ℕ) × BadWord call.words n × Said (bad_word_text n ++ newline)
   words_bad (at_words n b e s t) h = (n, b, t)
-  words_bad (at_report e l q) h = absurd (⊎_elim (λ z. omega (arith, z, h)) (λ z. omega (arith, z, h)) e)
+  words_bad (at_report k a i w q) h = absurd (apart status i (omega (arith, h)) (omega (arith, h)))
   words_bad (at_source e r q) h = absurd (omega (arith, e, h))
   words_bad (at_file e r q) h = absurd (omega (arith, e, h))
-  words_bad (at_output e r p t) h = absurd (omega (arith, e, h))
-  words_bad (at_memory run a e p t) h = absurd (omega (arith, e, h))
+  words_bad (at_output e r k a p t) h = absurd (omega (arith, e, h))
+  words_bad (at_memory e p t) h = absurd (omega (arith, e, h))
 
   pub bad_word : status ≡ 2 → (n : ℕ) × BadWord call.words n × Says call.err_old call.err_new call.err_faults_old call.err_faults_new (bad_word_text n ++ newline)
   bad_word = words_bad answered
 
+  no_command : (e : Ending call status) → HasNoCommand call.words → status ≡ 2
+  no_command (at_words n b e s t) none = e
+  no_command (at_report k a i w q) none = let c = has_command call.words k a in absurd (none c.0 c.1)
+  no_command (at_source e r q) none = let c = has_command call.words r.task r.asked in absurd (none c.0 c.1)
+  no_command (at_file e r q) none = let c = has_command call.words r.task r.asked in absurd (none c.0 c.1)
+  no_command (at_output e r k a p t) none = let c = has_command call.words k a in absurd (none c.0 c.1)
+  no_command (at_memory e p t) none = let c = has_command call.words p.task p.asked in absurd (none c.0 c.1)
+
+  pub bad_words : (status ≡ 2) ↔ HasNoCommand call.words
+  bad_words = ((λ h. (bad_word h).1.refused), (λ none. no_command answered none))
+
   source_of : (e : Ending call status) → status ≡ 3 → SourceIsRefused call.words (call.seen).held call.err_old call.err_new call.err_faults_old call.err_faults_new
   source_of (at_words n b e s t) h = absurd (omega (arith, e, h))
-  source_of (at_report e l q) h = absurd (⊎_elim (λ z. omega (arith, z, h)) (λ z. omega (arith, z, h)) e)
+  source_of (at_report k a i w q) h = absurd (apart status i (omega (arith, h)) (omega (arith, h)))
   source_of (at_source e r q) h = r
   source_of (at_file e r q) h = absurd (omega (arith, e, h))
-  source_of (at_output e r p t) h = absurd (omega (arith, e, h))
-  source_of (at_memory run a e p t) h = absurd (omega (arith, e, h))
+  source_of (at_output e r k a p t) h = absurd (omega (arith, e, h))
+  source_of (at_memory e p t) h = absurd (omega (arith, e, h))
 
   pub source_refused : status ≡ 3 → SourceIsRefused call.words (call.seen).held call.err_old call.err_new call.err_faults_old call.err_faults_new
   source_refused = source_of answered
 
   file_of_ending : (e : Ending call status) → status ≡ 4 → FileIsRefused call.words (call.seen).held (call.seen).files_old (call.seen).files_new call.err_old call.err_new call.err_faults_old call.err_faults_new
   file_of_ending (at_words n b e s t) h = absurd (omega (arith, e, h))
-  file_of_ending (at_report e l q) h = absurd (⊎_elim (λ z. omega (arith, z, h)) (λ z. omega (arith, z, h)) e)
+  file_of_ending (at_report k a i w q) h = absurd (apart status i (omega (arith, h)) (omega (arith, h)))
   file_of_ending (at_source e r q) h = absurd (omega (arith, e, h))
   file_of_ending (at_file e r q) h = r
-  file_of_ending (at_output e r p t) h = absurd (omega (arith, e, h))
-  file_of_ending (at_memory run a e p t) h = absurd (omega (arith, e, h))
+  file_of_ending (at_output e r k a p t) h = absurd (omega (arith, e, h))
+  file_of_ending (at_memory e p t) h = absurd (omega (arith, e, h))
 
   pub file_refused : status ≡ 4 → FileIsRefused call.words (call.seen).held (call.seen).files_old (call.seen).files_new call.err_old call.err_new call.err_faults_old call.err_faults_new
   file_refused = file_of_ending answered
 
   output_of : (e : Ending call status) → status ≡ 5 → Rose (call.seen).faults_old (call.seen).faults_new × Said (codes "output failed" ++ newline)
   output_of (at_words n b e s t) h = absurd (omega (arith, e, h))
-  output_of (at_report e l q) h = absurd (⊎_elim (λ z. omega (arith, z, h)) (λ z. omega (arith, z, h)) e)
+  output_of (at_report k a i w q) h = absurd (apart status i (omega (arith, h)) (omega (arith, h)))
   output_of (at_source e r q) h = absurd (omega (arith, e, h))
   output_of (at_file e r q) h = absurd (omega (arith, e, h))
-  output_of (at_output e r p t) h = (r, t)
-  output_of (at_memory run a e p t) h = absurd (omega (arith, e, h))
+  output_of (at_output e r k a p t) h = (r, t)
+  output_of (at_memory e p t) h = absurd (omega (arith, e, h))
 
   pub output_failed : status ≡ 5 → Rose (call.seen).faults_old (call.seen).faults_new × Says call.err_old call.err_new call.err_faults_old call.err_faults_new (codes "output failed" ++ newline)
   output_failed = output_of answered
 
   memory_of : (e : Ending call status) → status ≡ 7 → Said (codes "no memory" ++ newline)
   memory_of (at_words n b e s t) h = absurd (omega (arith, e, h))
-  memory_of (at_report e l q) h = absurd (⊎_elim (λ z. omega (arith, z, h)) (λ z. omega (arith, z, h)) e)
+  memory_of (at_report k a i w q) h = absurd (apart status i (omega (arith, h)) (omega (arith, h)))
   memory_of (at_source e r q) h = absurd (omega (arith, e, h))
   memory_of (at_file e r q) h = absurd (omega (arith, e, h))
-  memory_of (at_output e r p t) h = absurd (omega (arith, e, h))
-  memory_of (at_memory run a e p t) h = t
+  memory_of (at_output e r k a p t) h = absurd (omega (arith, e, h))
+  memory_of (at_memory e p t) h = t
 
   pub no_memory : status ≡ 7 → Says call.err_old call.err_new call.err_faults_old call.err_faults_new (codes "no memory" ++ newline)
   no_memory = memory_of answered
 
-  headline_of : (e : Ending call status) → (status ≡ 0) ⊎ (status ≡ 1) → Headline call.words (call.seen).held (call.seen).out_old (call.seen).out_new status
-  headline_of (at_words n b e s t) h = absurd (⊎_elim (λ z. omega (arith, z, e)) (λ z. omega (arith, z, e)) h)
-  headline_of (at_report e l q) h = l
-  headline_of (at_source e r q) h = absurd (⊎_elim (λ z. omega (arith, z, e)) (λ z. omega (arith, z, e)) h)
-  headline_of (at_file e r q) h = absurd (⊎_elim (λ z. omega (arith, z, e)) (λ z. omega (arith, z, e)) h)
-  headline_of (at_output e r p t) h = absurd (⊎_elim (λ z. omega (arith, z, e)) (λ z. omega (arith, z, e)) h)
-  headline_of (at_memory run a e p t) h = absurd (⊎_elim (λ z. omega (arith, z, e)) (λ z. omega (arith, z, e)) h)
+  -- what was written, where the status is that of a report
+  wrote_of : (e : Ending call status) → In status (0 ∷ 1 ∷ 10 ∷ 11 ∷ []) → (k : Task) × Asks call.words k × Written k × (call.err_new ≡ call.err_old)
+  wrote_of (at_words n b e s t) h = absurd (apart status h (omega (arith, e)) (omega (arith, e)))
+  wrote_of (at_report k a i w q) h = (k, a, w, q)
+  wrote_of (at_source e r q) h = absurd (apart status h (omega (arith, e)) (omega (arith, e)))
+  wrote_of (at_file e r q) h = absurd (apart status h (omega (arith, e)) (omega (arith, e)))
+  wrote_of (at_output e r k a p t) h = absurd (apart status h (omega (arith, e)) (omega (arith, e)))
+  wrote_of (at_memory e p t) h = absurd (apart status h (omega (arith, e)) (omega (arith, e)))
 
-  pub headline : (status ≡ 0) ⊎ (status ≡ 1) → Headline call.words (call.seen).held (call.seen).out_old (call.seen).out_new status
-  headline = headline_of answered
+  pub quiet : In status (0 ∷ 1 ∷ 10 ∷ 11 ∷ []) → call.err_new ≡ call.err_old
+  quiet h = (wrote_of answered h).3
 
-  stands_of : (e : Ending call status) → (status ≡ 5) ⊎ (status ≡ 7) → PartOfReport call.words (call.seen).held (call.seen).out_old (call.seen).out_new
-  stands_of (at_words n b e s t) h = nothing s
-  stands_of (at_report e l q) h = absurd (⊎_elim (λ z. ⊎_elim (λ y. omega (arith, z, y)) (λ y. omega (arith, z, y)) h) (λ z. ⊎_elim (λ y. omega (arith, z, y)) (λ y. omega (arith, z, y)) h) e)
-  stands_of (at_source e r q) h = nothing q
-  stands_of (at_file e r q) h = nothing q
-  stands_of (at_output e r p t) h = part p
-  stands_of (at_memory run a e p t) h = p
+  pub listed : (r : RunWords) → Accepted call.words (Run r) → In status (0 ∷ 1 ∷ 10 ∷ 11 ∷ []) →
+      Wrote (call.seen).held (call.seen).out_old (call.seen).out_new (list_task call.words r) status
+  listed r a h = let w = wrote_of answered h in subst (λ k. Written k) (of_list one call.words w.0 r w.1 a) w.2
 
-  pub stands : (status ≡ 5) ⊎ (status ≡ 7) → PartOfReport call.words (call.seen).held (call.seen).out_old (call.seen).out_new
+  low_in : (status ≡ 0) ⊎ (status ≡ 1) → In status (0 ∷ 1 ∷ 10 ∷ 11 ∷ [])
+  low_in (inl e) = inl e
+  low_in (inr e) = inr (inl e)
+
+  pub traced : (t : TraceWords) → Accepted call.words (Trace t) → status ≤ 1 →
+      Wrote (call.seen).held (call.seen).out_old (call.seen).out_new (trace_task call.words t) status
+  traced t a h = let w = wrote_of answered (small_in status h) in subst (λ k. Written k) (of_trace one call.words w.0 t w.1 a) w.2
+
+  at_most_one : (status ≡ 0) ⊎ (status ≡ 1) → status ≤ 1
+  at_most_one (inl e) = omega (arith, e)
+  at_most_one (inr e) = omega (arith, e)
+
+  pub headline : (r : RunWords) → Accepted call.words (Run r) → (status ≡ 0) ⊎ (status ≡ 1) → Headline call.words r (call.seen).held (call.seen).out_old (call.seen).out_new status
+  headline r a h = of_wrote (listed r a (low_in h))
+    where
+      of_wrote : Wrote (call.seen).held (call.seen).out_old (call.seen).out_new (list_task call.words r) status → Headline call.words r (call.seen).held (call.seen).out_old (call.seen).out_new status
+      of_wrote w =
+          let l = w.report in
+          let none = total_zero (total (counts_of l.listing)) (has_fault (l.listing).items) status l.verdict (at_most_one h) in
+          let whole = all_zero (counts_of l.listing) none in
+          record {
+            bytes = w.bytes;
+            program = l.program;
+            listing = l.listing;
+            read = w.read;
+            source = l.source;
+            bounds = l.lists.bounds;
+            complete = whole;
+            begun = l.lists.licensed.begun;
+            enumerates = l.lists.enumerates whole;
+            written = w.written ∙ ap (λ u. appended (call.seen).out_old u) l.text_is;
+            verdict = l.verdict;
+          }
+
+  stands_of : (e : Ending call status) → (status ≡ 5) ⊎ (status ≡ 7) → PartStands call.words (call.seen).held (call.seen).out_old (call.seen).out_new
+  stands_of (at_words n b e s t) (inl h) = absurd (omega (arith, e, h))
+  stands_of (at_words n b e s t) (inr h) = absurd (omega (arith, e, h))
+  stands_of (at_report k a i w q) (inl h) = absurd (apart status i (omega (arith, h)) (omega (arith, h)))
+  stands_of (at_report k a i w q) (inr h) = absurd (apart status i (omega (arith, h)) (omega (arith, h)))
+  stands_of (at_source e r q) h = record { task = r.task; asked = r.asked; stands = nothing q }
+  stands_of (at_file e r q) h = record { task = r.task; asked = r.asked; stands = nothing q }
+  stands_of (at_output e r k a p t) h = record { task = k; asked = a; stands = part p }
+  stands_of (at_memory e p t) h = p
+
+  pub stands : (status ≡ 5) ⊎ (status ≡ 7) → PartStands call.words (call.seen).held (call.seen).out_old (call.seen).out_new
   stands = stands_of answered
 
   silent_of : (e : Ending call status) → 2 ≤ status → status ≤ 4 → (call.seen).out_new ≡ (call.seen).out_old
   silent_of (at_words n b e s t) l h = s
-  silent_of (at_report e k q) l h = absurd (⊎_elim (λ z. omega (arith, z, l)) (λ z. omega (arith, z, l)) e)
+  silent_of (at_report k a i w q) l h = absurd (apart status i l (omega (arith, h)))
   silent_of (at_source e r q) l h = q
   silent_of (at_file e r q) l h = q
-  silent_of (at_output e r p t) l h = absurd (omega (arith, e, h))
-  silent_of (at_memory run a e p t) l h = absurd (omega (arith, e, h))
+  silent_of (at_output e r k a p t) l h = absurd (omega (arith, e, h))
+  silent_of (at_memory e p t) l h = absurd (omega (arith, e, h))
 
   pub silent : 2 ≤ status → status ≤ 4 → (call.seen).out_new ≡ (call.seen).out_old
   silent = silent_of answered
 
-  quiet_of : (e : Ending call status) → status ≤ 1 → call.err_new ≡ call.err_old
-  quiet_of (at_words n b e s t) h = absurd (omega (arith, e, h))
-  quiet_of (at_report e k q) h = q
-  quiet_of (at_source e r q) h = absurd (omega (arith, e, h))
-  quiet_of (at_file e r q) h = absurd (omega (arith, e, h))
-  quiet_of (at_output e r p t) h = absurd (omega (arith, e, h))
-  quiet_of (at_memory run a e p t) h = absurd (omega (arith, e, h))
+  every : In status (0 ∷ 1 ∷ 10 ∷ 11 ∷ []) → In status (0 ∷ 1 ∷ 2 ∷ 3 ∷ 4 ∷ 5 ∷ 7 ∷ 10 ∷ 11 ∷ [])
+  every (inl e) = inl e
+  every (inr (inl e)) = inr (inl e)
+  every (inr (inr h)) = inr (inr (inr (inr (inr (inr (inr h))))))
 
-  pub quiet : status ≤ 1 → call.err_new ≡ call.err_old
-  quiet = quiet_of answered
+  statuses_of : (e : Ending call status) → In status (0 ∷ 1 ∷ 2 ∷ 3 ∷ 4 ∷ 5 ∷ 7 ∷ 10 ∷ 11 ∷ [])
+  statuses_of (at_words n b e s t) = inr (inr (inl e))
+  statuses_of (at_report k a i w q) = every i
+  statuses_of (at_source e r q) = inr (inr (inr (inl e)))
+  statuses_of (at_file e r q) = inr (inr (inr (inr (inl e))))
+  statuses_of (at_output e r k a p t) = inr (inr (inr (inr (inr (inl e)))))
+  statuses_of (at_memory e p t) = inr (inr (inr (inr (inr (inr (inl e))))))
+
+  pub statuses : In status (0 ∷ 1 ∷ 2 ∷ 3 ∷ 4 ∷ 5 ∷ 7 ∷ 10 ∷ 11 ∷ [])
+  statuses = statuses_of answered
+
+  -- of a list alone come 10 and 11
+  run_of : (k : Task) → Asks call.words k → Written k → 10 ≤ status → (r : RunWords) × Accepted call.words (Run r)
+  run_of _ (asks_list r a) w l = (r, a)
+  run_of _ (asks_trace t a) w l =
+      let s = trace_status w.bytes (trace_task call.words t).entry (trace_task call.words t).work w.text status w.report l in
+      let e = s.3 in absurd (cc e)
+
+  alone_of : (e : Ending call status) → 10 ≤ status → (r : RunWords) × Accepted call.words (Run r)
+  alone_of (at_words n b e s t) h = absurd (omega (arith, e, h))
+  alone_of (at_report k a i w q) h = run_of k a w h
+  alone_of (at_source e r q) h = absurd (omega (arith, e, h))
+  alone_of (at_file e r q) h = absurd (omega (arith, e, h))
+  alone_of (at_output e r k a p t) h = absurd (omega (arith, e, h))
+  alone_of (at_memory e p t) h = absurd (omega (arith, e, h))
+
+  pub run_alone : 10 ≤ status → (r : RunWords) × Accepted call.words (Run r)
+  run_alone = alone_of answered
 
   -- ---- which status comes
 
-  module _ (run : RunWords) (a : Accepted call.words (Run run)) where
+  module _ (task : Task) (a : Asks call.words task) where
     -- the file of the words is there, and has these bytes
     module _ (h : Held) (told : (call.seen).held ≡ Some h) where
-      none_read : (s : RunWords) (c : List ℕ) → file_of (word_of call.words run.file) h ≡ None → IsSession call.words s (call.seen).held c → ⊥
-      none_read s c none i =
-          let same = one_run call.words s run i.accepted a in
-          let there : file_of (word_of call.words s.file) h ≡ Some c = (i.read).told h told in
-          let gone : file_of (word_of call.words s.file) h ≡ None = subst (λ u. file_of (word_of call.words u.file) h ≡ None) (sym same) none in
+      none_read : (k : Task) (c : List ℕ) → Asks call.words k → file_of task.file h ≡ None → ReadAs (call.seen).held k.file c → ⊥
+      none_read k c b none i =
+          let same = one_task one call.words k task b a in
+          let there : file_of k.file h ≡ Some c = i.told h told in
+          let gone : file_of k.file h ≡ None = subst (λ u. file_of u.file h ≡ None) (sym same) none in
           cc (there, gone)
 
-      missing_of : (e : Ending call status) → file_of (word_of call.words run.file) h ≡ None → (status ≡ 4) ⊎ (status ≡ 7)
-      missing_of (at_words n b e s t) none = absurd (b.refused (Run run) a)
-      missing_of (at_report e l q) none = absurd (none_read l.run l.bytes none l.session)
-      missing_of (at_source e r q) none = absurd (none_read r.run r.bytes none r.session)
+      missing_of : (e : Ending call status) → file_of task.file h ≡ None → (status ≡ 4) ⊎ (status ≡ 7)
+      missing_of (at_words n b e s t) none = let c = has_command call.words task a in absurd (b.refused c.0 c.1)
+      missing_of (at_report k b i w q) none = absurd (none_read k w.bytes b none w.read)
+      missing_of (at_source e r q) none = absurd (none_read r.task r.bytes r.asked none r.read)
       missing_of (at_file e r q) none = inl e
-      missing_of (at_output e r p t) none = absurd (none_read p.run p.bytes none p.session)
-      missing_of (at_memory s b e p t) none = inr e
+      missing_of (at_output e r k b p t) none = absurd (none_read k p.bytes b none p.read)
+      missing_of (at_memory e p t) none = inr e
 
-      pub missing_file : file_of (word_of call.words run.file) h ≡ None → (status ≡ 4) ⊎ (status ≡ 7)
+      pub missing_file : file_of task.file h ≡ None → (status ≡ 4) ⊎ (status ≡ 7)
       missing_file = missing_of answered
 
-      long_read : (s : RunWords) (b c : List ℕ) → file_of (word_of call.words run.file) h ≡ Some b → 1048576 < length b → IsSession call.words s (call.seen).held c → ⊥
-      long_read s b c here long i =
-          let same : c ≡ b = same_bytes call.words run s (call.seen).held h b c a i.accepted told here i.read in
-          let short : length b ≤ 1048576 = subst (λ u. length u ≤ 1048576) same (i.read).short in
+      same_bytes : (k : Task) (c d : List ℕ) → Asks call.words k → file_of task.file h ≡ Some d → ReadAs (call.seen).held k.file c → c ≡ d
+      same_bytes k c d b here i =
+          let same = one_task one call.words k task b a in
+          let there : file_of k.file h ≡ Some c = i.told h told in
+          let here' : file_of k.file h ≡ Some d = subst (λ u. file_of u.file h ≡ Some d) (sym same) here in
+          cc (there, here')
+
+      long_read : (k : Task) (c d : List ℕ) → Asks call.words k → file_of task.file h ≡ Some d → 1048576 < length d → ReadAs (call.seen).held k.file c → ⊥
+      long_read k c d b here long i =
+          let same : c ≡ d = same_bytes k c d b here i in
+          let short : length d ≤ 1048576 = subst (λ u. length u ≤ 1048576) same i.short in
           omega (arith, short, long)
 
-      too_long_of : (e : Ending call status) (b : List ℕ) → file_of (word_of call.words run.file) h ≡ Some b → 1048576 < length b → (status ≡ 4) ⊎ (status ≡ 7)
-      too_long_of (at_words n b e s t) c here long = absurd (b.refused (Run run) a)
-      too_long_of (at_report e l q) c here long = absurd (long_read l.run c l.bytes here long l.session)
-      too_long_of (at_source e r q) c here long = absurd (long_read r.run c r.bytes here long r.session)
-      too_long_of (at_file e r q) c here long = inl e
-      too_long_of (at_output e r p t) c here long = absurd (long_read p.run c p.bytes here long p.session)
-      too_long_of (at_memory s b e p t) c here long = inr e
+      too_long_of : (e : Ending call status) (d : List ℕ) → file_of task.file h ≡ Some d → 1048576 < length d → (status ≡ 4) ⊎ (status ≡ 7)
+      too_long_of (at_words n b e s t) d here long = let c = has_command call.words task a in absurd (b.refused c.0 c.1)
+      too_long_of (at_report k b i w q) d here long = absurd (long_read k w.bytes d b here long w.read)
+      too_long_of (at_source e r q) d here long = absurd (long_read r.task r.bytes d r.asked here long r.read)
+      too_long_of (at_file e r q) d here long = inl e
+      too_long_of (at_output e r k b p t) d here long = absurd (long_read k p.bytes d b here long p.read)
+      too_long_of (at_memory e p t) d here long = inr e
 
-      pub too_long_file : (b : List ℕ) → file_of (word_of call.words run.file) h ≡ Some b → 1048576 < length b → (status ≡ 4) ⊎ (status ≡ 7)
+      pub too_long_file : (d : List ℕ) → file_of task.file h ≡ Some d → 1048576 < length d → (status ≡ 4) ⊎ (status ≡ 7)
       too_long_file = too_long_of answered
 
-  -- the files hold a source under the word FILE
-  module _ (one : OneProgram) (run : RunWords) (bytes : List ℕ) (i : IsSource call.words run (call.seen).held bytes) where
-    is_read : (s : RunWords) (c : List ℕ) → IsSession call.words s (call.seen).held c → (c ≡ bytes) × (word_of call.words s.entry ≡ word_of call.words run.entry)
-    is_read s c j = (
-      same_bytes call.words run s (call.seen).held i.files bytes c i.accepted j.accepted i.told i.file j.read,
-      ap (λ u. word_of call.words u.entry) (one_run call.words s run j.accepted i.accepted),
-    )
+    -- the files hold a source under the word FILE
+    module _ (bytes : List ℕ) (i : IsSource task (call.seen).held bytes) where
+      -- the only fault of the file can be that the files failed
+      file_failed : (k : Task) (what : List ℕ) → Asks call.words k → FileFault (call.seen).held (call.seen).files_old (call.seen).files_new k.file what →
+          Rose (call.seen).files_old (call.seen).files_new
+      file_failed k what b (inl h) =
+          let same = one_task one call.words k task b a in
+          let gone : file_of task.file i.files ≡ None = subst (λ u. file_of u.file i.files ≡ None) same (h.1 i.files i.told) in
+          let there = i.file in
+          absurd (cc (there, gone))
+      file_failed k what b (inr (inl h)) =
+          let same = one_task one call.words k task b a in
+          let l = h.1 i.files i.told in
+          let there : file_of task.file i.files ≡ Some l.0 = subst (λ u. file_of u.file i.files ≡ Some l.0) same l.1 in
+          let here = i.file in
+          let e : l.0 ≡ bytes = cc (there, here) in
+          let short : length l.0 ≤ 1048576 = subst (λ u. length u ≤ 1048576) (sym e) i.short in
+          absurd (omega (arith, short, l.2))
+      file_failed k what b (inr (inr h)) = h.1
 
-    -- the only fault of the file can be that the files failed
-    file_failed : (s : RunWords) (what : List ℕ) → Accepted call.words (Run s) → FileFault (call.seen).held (call.seen).files_old (call.seen).files_new (word_of call.words s.file) what →
-        Rose (call.seen).files_old (call.seen).files_new
-    file_failed s what b (inl h) =
-        let same = one_run call.words s run b i.accepted in
-        let gone : file_of (word_of call.words run.file) i.files ≡ None = subst (λ u. file_of (word_of call.words u.file) i.files ≡ None) same (h.1 i.files i.told) in
-        let there = i.file in
-        absurd (cc (there, gone))
-    file_failed s what b (inr (inl h)) =
-        let same = one_run call.words s run b i.accepted in
-        let l = h.1 i.files i.told in
-        let there : file_of (word_of call.words run.file) i.files ≡ Some l.0 = subst (λ u. file_of (word_of call.words u.file) i.files ≡ Some l.0) same l.1 in
-        let here = i.file in
-        let e : l.0 ≡ bytes = cc (there, here) in
-        let short : length l.0 ≤ 1048576 = subst (λ u. length u ≤ 1048576) (sym e) i.short in
-        absurd (omega (arith, short, l.2))
-    file_failed s what b (inr (inr h)) = h.1
+      -- what was written is written for these bytes and this task
+      reported : (k : Task) (c text : List ℕ) (n : ℕ) → Asks call.words k → ReadAs (call.seen).held k.file c → IsReport c k.entry k.work text n → IsReport bytes task.entry task.work text n
+      reported k c text n b read r =
+          let same = one_task one call.words k task b a in
+          subst (λ u. IsReport bytes u.entry u.work text n) same (subst (λ d. IsReport d k.entry k.work text n) (same_bytes i.files i.told k c bytes b i.file read) r)
 
-    refused_of : (e : Ending call status) (text : List ℕ) → Refuses bytes (word_of call.words run.entry) text →
-        (status ≡ 3) ⊎ ((status ≡ 7) ⊎ ((status ≡ 4) × Rose (call.seen).files_old (call.seen).files_new))
-    refused_of (at_words n b e s t) text r = absurd (b.refused (Run run) i.accepted)
-    refused_of (at_report e l q) text r =
-        let same = is_read l.run l.bytes l.session in
-        absurd (listed_refused one l.bytes (word_of call.words (l.run).entry) bytes (word_of call.words run.entry) (l.run).bounds (l.run).runs l.program l.listing text same.0 same.1 l.lists r)
-    refused_of (at_source e r' q) text r = inl e
-    refused_of (at_file e r' q) text r = inr (inr (e, file_failed r'.run r'.what r'.accepted r'.cause))
-    refused_of (at_output e r' p t) text r =
-        let same = is_read p.run p.bytes p.session in
-        absurd (listed_refused one p.bytes (word_of call.words (p.run).entry) bytes (word_of call.words run.entry) (p.run).bounds (p.run).runs p.program p.listing text same.0 same.1 p.lists r)
-    refused_of (at_memory s b e p t) text r = inr (inl e)
+      refused : (r : SourceIsRefused call.words (call.seen).held call.err_old call.err_new call.err_faults_old call.err_faults_new) → RefusesTask bytes task.entry task.work r.text
+      refused r =
+          let same = one_task one call.words r.task task r.asked a in
+          subst (λ u. RefusesTask bytes u.entry u.work r.text) same
+          (subst (λ d. RefusesTask d (r.task).entry (r.task).work r.text) (same_bytes i.files i.told r.task r.bytes bytes r.asked i.file r.read) r.refused)
 
-    pub refused_source : (text : List ℕ) → Refuses bytes (word_of call.words run.entry) text →
-        (status ≡ 3) ⊎ ((status ≡ 7) ⊎ ((status ≡ 4) × Rose (call.seen).files_old (call.seen).files_new))
-    refused_source = refused_of answered
+      -- where nothing is written for them, the call is refused
+      refusal_of : (e : Ending call status) → ((text : List ℕ) (n : ℕ) → IsReport bytes task.entry task.work text n → ⊥) → IsRefusal (call.seen).files_old (call.seen).files_new status
+      refusal_of (at_words n b e s t) none = let c = has_command call.words task a in absurd (b.refused c.0 c.1)
+      refusal_of (at_report k b j w q) none = absurd (none w.text status (reported k w.bytes w.text status b w.read w.report))
+      refusal_of (at_source e r q) none = inl e
+      refusal_of (at_file e r q) none = inr (inr (e, file_failed r.task r.what r.asked r.cause))
+      refusal_of (at_output e r k b p t) none = absurd (none p.text p.status (reported k p.bytes p.text p.status b p.read p.report))
+      refusal_of (at_memory e p t) none = inr (inl e)
 
-    complete_of : (e : Ending call status) (p : Program) → (j : IsProgram bytes (word_of call.words run.entry) p) → IsOneSum ((j.checked).program).items → (Rose (call.seen).files_old (call.seen).files_new → ⊥) → (Rose (call.seen).faults_old (call.seen).faults_new → ⊥) →
-        (status ≡ 0) ⊎ ((status ≡ 1) ⊎ (status ≡ 7))
-    complete_of (at_words n b e s t) p j kind f o = absurd (b.refused (Run run) i.accepted)
-    complete_of (at_report e l q) p j kind f o = ⊎_elim (λ z. inl z) (λ z. inr (inl z)) e
-    complete_of (at_source e r q) p j kind f o =
-        let same = is_read r.run r.bytes r.session in
-        absurd (accepted_refused one bytes (word_of call.words run.entry) p r.text j kind (subst (λ u. Refuses u (word_of call.words run.entry) r.text) same.0 (subst (λ u. Refuses r.bytes u r.text) same.1 r.refused)))
-    complete_of (at_file e r q) p j kind f o = absurd (f (file_failed r.run r.what r.accepted r.cause))
-    complete_of (at_output e r q t) p j kind f o = absurd (o r)
-    complete_of (at_memory s b e q t) p j kind f o = inr (inr e)
+      -- where they are not refused and nothing fails, the text is written, or memory is wanting
+      report_of : (e : Ending call status) → ((text : List ℕ) → RefusesTask bytes task.entry task.work text → ⊥) →
+          (Rose (call.seen).files_old (call.seen).files_new → ⊥) → (Rose (call.seen).faults_old (call.seen).faults_new → ⊥) →
+          (status ≡ 7) ⊎ (In status (0 ∷ 1 ∷ 10 ∷ 11 ∷ []) × Written task)
+      report_of (at_words n b e s t) none f o = let c = has_command call.words task a in absurd (b.refused c.0 c.1)
+      report_of (at_report k b j w q) none f o = inr (j, subst (λ u. Written u) (one_task one call.words k task b a) w)
+      report_of (at_source e r q) none f o = absurd (none r.text (refused r))
+      report_of (at_file e r q) none f o = absurd (f (file_failed r.task r.what r.asked r.cause))
+      report_of (at_output e r k b p t) none f o = absurd (o r)
+      report_of (at_memory e p t) none f o = inl e
 
-    pub complete : (p : Program) → (j : IsProgram bytes (word_of call.words run.entry) p) → IsOneSum ((j.checked).program).items → (Rose (call.seen).files_old (call.seen).files_new → ⊥) → (Rose (call.seen).faults_old (call.seen).faults_new → ⊥) →
-        (status ≡ 0) ⊎ ((status ≡ 1) ⊎ (status ≡ 7))
-    complete = complete_of answered
+  pub refused_source : OneProgram → (task : Task) (bytes text : List ℕ) → Asks call.words task → IsSource task (call.seen).held bytes → Refuses bytes task.entry text →
+      IsRefusal (call.seen).files_old (call.seen).files_new status
+  refused_source law task bytes text a i r = refusal_of task a bytes i answered (λ u n h. reported_unrefused law bytes task.entry task.work u text n h r)
+
+  pub refused_map : (t : TraceWords) (bytes : List ℕ) (f : MapFault) → Accepted call.words (Trace t) → IsSource (trace_task call.words t) (call.seen).held bytes →
+      IsSourceOf bytes (trace_task call.words t).entry (λ p. Refused p t.bounds (word_of call.words t.map) f) → IsRefusal (call.seen).files_old (call.seen).files_new status
+  refused_map t bytes f a i s = refusal_of (trace_task call.words t) (asks_trace t a) bytes i answered (λ u n h. h.unrefused f (s.each h.program h.source))
+
+  pub not_yet : (r : RunWords) (bytes : List ℕ) → Accepted call.words (Run r) → IsSource (list_task call.words r) (call.seen).held bytes →
+      IsSourceOf bytes (list_task call.words r).entry (λ p. AsksNothing p r.bounds → ⊥) → IsRefusal (call.seen).files_old (call.seen).files_new status
+  not_yet r bytes a i s = refusal_of (list_task call.words r) (asks_list r a) bytes i answered (λ u n h. s.each h.program h.source h.asks_nothing)
+
+  listed_or : In status (0 ∷ 1 ∷ 10 ∷ 11 ∷ []) → In status (0 ∷ 1 ∷ 7 ∷ 10 ∷ 11 ∷ [])
+  listed_or (inl e) = inl e
+  listed_or (inr (inl e)) = inr (inl e)
+  listed_or (inr (inr h)) = inr (inr (inr h))
+
+  pub complete : OneProgram → (r : RunWords) (bytes : List ℕ) → Accepted call.words (Run r) → IsSource (list_task call.words r) (call.seen).held bytes →
+      IsSourceOf bytes (list_task call.words r).entry (λ p. AsksNothing p r.bounds) → (Rose (call.seen).files_old (call.seen).files_new → ⊥) → (Rose (call.seen).faults_old (call.seen).faults_new → ⊥) →
+      In status (0 ∷ 1 ∷ 7 ∷ 10 ∷ 11 ∷ [])
+  complete law r bytes a i s f o =
+      ⊎_elim (λ e. inr (inr (inl e))) (λ h. listed_or h.0)
+      (report_of (list_task call.words r) (asks_list r a) bytes i answered (λ text t. list_unrefused law bytes (list_task call.words r).entry r.bounds r.runs r.budget text s t) f o)
+
+  low_or : (status ≡ 7) ⊎ (status ≤ 1) → In status (0 ∷ 1 ∷ 7 ∷ [])
+  low_or (inl e) = inr (inr (inl e))
+  low_or (inr h) = ⊎_elim (λ e. inl e) (λ e. inr (inl e)) (small_of status h)
+
+  pub complete_trace : OneProgram → (t : TraceWords) (bytes : List ℕ) (h : Input) → Accepted call.words (Trace t) → IsSource (trace_task call.words t) (call.seen).held bytes →
+      IsMap (word_of call.words t.map) h → IsSourceOf bytes (trace_task call.words t).entry (λ p. IsInput p t.bounds h) →
+      (Rose (call.seen).files_old (call.seen).files_new → ⊥) → (Rose (call.seen).faults_old (call.seen).faults_new → ⊥) → In status (0 ∷ 1 ∷ 7 ∷ [])
+  complete_trace law t bytes h a i m s f o =
+      low_or (⊎_elim (λ e. inl e) (λ w. inr (told_status w.1))
+      (report_of (trace_task call.words t) (asks_trace t a) bytes i answered (λ text r. trace_unrefused law bytes (trace_task call.words t).entry t.bounds (word_of call.words t.map) text h m s r) f o))
+    where
+      told_status : Written (trace_task call.words t) → status ≤ 1
+      told_status w = run_in (is_fault (end_at (w.report).program t.bounds (w.report).input)) status (w.report).verdict

@@ -1,8 +1,12 @@
-pub mod Plain
-pub mod Sums
+pub mod Words
+pub mod Sources
+pub mod Options
 pub mod Refusals
+pub mod Listings
+pub mod TraceText
+pub mod Tasks
 pub mod Session
 pub mod Programs
-pub mod OneTest
 pub mod Lines
+pub mod Prepared
 pub mod Concolic

@@ -1,13 +1,7 @@
 -- What reading a source comes to.
-use Rattle.std.specs.Prelude.{ℕ, ◌≡◌, true, false, List, [], ◌∷◌, Some, Ok, Err, codes}
+use Rattle.std.specs.Prelude.{ℕ, ◌≡◌, false, List, Ok, Err, codes}
 use Rattle.cc_model.specs.declared.tokens.Token.{Token}
 use Rattle.cc_model.specs.declared.checked.Checked.{Checked}
-use Rattle.cc_model.specs.declared.trees.Expr.{Expr}
-use Rattle.cc_model.specs.declared.trees.Func.{Func}
-use Rattle.cc_model.specs.declared.trees.Part.TheVariants as part
-use Rattle.cc_model.specs.declared.trees.Stmt.TheVariants as stmt
-use Rattle.cc_model.specs.declared.trees.Item.{Item}
-use Rattle.cc_model.specs.declared.trees.Item.TheVariants as item
 use Rattle.cc_model.specs.declared.trees.Program.{Program}
 use Rattle.cc_model.specs.declared.typing.Wrong as typing
 use Rattle.cc_model.specs.declared.typing.Wrong.TheVariants as fault
@@ -15,12 +9,12 @@ use Rattle.cc_model.specs.Lexical.{LexicalFault, tokens_of, line_at}
 use Rattle.cc_model.specs.Reads.{Accepts}
 use Rattle.cc_model.specs.Faults.{Found, WellTyped, IsFirst, has_entry}
 use Rattle.cc_model.specs.CheckedProgram.{IsChecked}
-use Rattle.cc_model.specs.OneSum.{ReturnsSum, IsOneSum}
-use Rattle.cc_model.specs.Source.{text_at, place_line, offset_of, what_of}
+use Rattle.cc_model.specs.Source.{text_at, place_line}
+use Rattle.concolic_cli.specs.Sources.{offset_of, what_of}
 use Rattle.concolic_cli.specs.declared.refusal.Wrong.{Wrong}
 use Rattle.concolic_cli.specs.declared.refusal.Wrong.TheVariants.{BadByte, BadNumber, OpenComment, BadDirective, Syntax, TooDeep, UnknownName, DeclaredTwice, Mismatch, TooLarge}
 use Rattle.concolic_cli.specs.declared.refusal.Refusal.{Refusal}
-use Rattle.concolic_cli.specs.declared.refusal.Refusal.TheVariants.{BadWord, Missing, TooLong, FileFailed, Source, NotYet, NoEntry, OutputFailed, NoMemory}
+use Rattle.concolic_cli.specs.declared.refusal.Refusal.TheVariants.{BadWord, Missing, TooLong, FileFailed, Source, NotYet, NoEntry, Map, OutputFailed, NoMemory}
 
 -- the bytes are these tokens, and the program that these are is checked, to test the function with this name
 pub record ReadsAs (bytes entry : List ℕ) (tokens : List Token) (checked : Checked) : Type 0 where
@@ -75,12 +69,5 @@ IsNoProgram bytes entry Missing = ⊥
 IsNoProgram bytes entry TooLong = ⊥
 IsNoProgram bytes entry FileFailed = ⊥
 IsNoProgram bytes entry NotYet = ⊥
+IsNoProgram bytes entry (Map f) = ⊥
 IsNoProgram bytes entry OutputFailed = ⊥
-
--- the function returns the expression, and does nothing else
-abbrev pub Returns : Func → Expr → Type 0
-Returns f e = (word : ℕ) × (f.body ≡ part.Stmt (stmt.Return word (Some e)) ∷ [])
-
--- the items are one function, which returns the sum
-abbrev pub IsSumOf : List Item → Expr → Type 0
-IsSumOf items e = (f : Func) × (items ≡ item.Func f ∷ []) × ReturnsSum f e

@@ -1,14 +1,16 @@
 -- What the tool says when it refuses, and its status then. The texts and the statuses are this project's own.
 use Rattle.std.specs.Prelude.{ℕ, ◌≡◌, ◌⊎◌, Bool, true, false, IsTrue, List, ◌++◌, Option, codes}
-use Rattle.std.specs.Fmt.{decimal}
+use Rattle.std.specs.Fmt.{decimal, signed_decimal}
+use Rattle.input_map.specs.declared.faults.MapFault.{MapFault}
+use Rattle.input_map.specs.declared.faults.MapFault.TheVariants as map_fault
 use Rattle.cc_model.specs.Report.{newline}
-use Rattle.cc_model.specs.Source.{source_text, not_yet_text, no_entry_text}
+use Rattle.concolic_cli.specs.Sources.{source_text, not_yet_text, no_entry_text}
 use Rattle.cc_outside.specs.Faults.{Rose}
 use Rattle.cc_outside.specs.Told.{appended, WritesPart}
 use Rattle.concolic_cli.specs.declared.refusal.Wrong.{Wrong}
 use Rattle.concolic_cli.specs.declared.refusal.Wrong.TheVariants.{BadByte, BadNumber, OpenComment, BadDirective, Syntax, TooDeep, UnknownName, DeclaredTwice, Mismatch, TooLarge}
 use Rattle.concolic_cli.specs.declared.refusal.Refusal.{Refusal}
-use Rattle.concolic_cli.specs.declared.refusal.Refusal.TheVariants.{BadWord, Missing, TooLong, FileFailed, Source, NotYet, NoEntry, OutputFailed, NoMemory}
+use Rattle.concolic_cli.specs.declared.refusal.Refusal.TheVariants.{BadWord, Missing, TooLong, FileFailed, Source, NotYet, NoEntry, Map, OutputFailed, NoMemory}
 
 abbrev pub what_text : Wrong → List ℕ
 what_text BadByte = codes "bad byte"
@@ -29,6 +31,30 @@ file_text file what = codes "file " ++ file ++ codes ": " ++ what
 abbrev pub bad_word_text : ℕ → List ℕ
 bad_word_text n = codes "bad word " ++ decimal n
 
+-- what is wrong with the text of an input
+abbrev pub map_what : MapFault → List ℕ
+map_what (map_fault.Malformed byte) = codes "malformed at " ++ decimal byte
+map_what (map_fault.NotCanonical address) = codes "not canonical at " ++ signed_decimal address
+map_what map_fault.Short = codes "short"
+map_what (map_fault.Long address) = codes "too long at " ++ signed_decimal address
+map_what (map_fault.OutOfBounds address) = codes "out of bounds at " ++ signed_decimal address
+map_what (map_fault.StreamOutOfBounds place) = codes "stream out of bounds at " ++ decimal place
+map_what map_fault.NoMemory = codes "no memory"
+
+-- map: WHAT
+abbrev pub map_text_of : MapFault → List ℕ
+map_text_of fault = codes "map: " ++ map_what fault
+
+-- the refusal of a map with this fault
+abbrev pub map_refusal : MapFault → Refusal
+map_refusal (map_fault.Malformed byte) = Map (map_fault.Malformed byte)
+map_refusal (map_fault.NotCanonical address) = Map (map_fault.NotCanonical address)
+map_refusal map_fault.Short = Map map_fault.Short
+map_refusal (map_fault.Long address) = Map (map_fault.Long address)
+map_refusal (map_fault.OutOfBounds address) = Map (map_fault.OutOfBounds address)
+map_refusal (map_fault.StreamOutOfBounds place) = Map (map_fault.StreamOutOfBounds place)
+map_refusal map_fault.NoMemory = NoMemory
+
 -- the text of a refusal, for the words FILE and ENTRY
 abbrev pub refusal_text : List ℕ → List ℕ → Refusal → List ℕ
 refusal_text file entry (BadWord n) = bad_word_text n
@@ -38,6 +64,7 @@ refusal_text file entry FileFailed = file_text file (codes "failed")
 refusal_text file entry (Source line wrong) = source_text line (what_text wrong)
 refusal_text file entry NotYet = not_yet_text
 refusal_text file entry NoEntry = no_entry_text entry
+refusal_text file entry (Map fault) = map_text_of fault
 refusal_text file entry OutputFailed = codes "output failed"
 refusal_text file entry NoMemory = codes "no memory"
 
@@ -54,10 +81,11 @@ status_of FileFailed = 4
 status_of (Source line wrong) = 3
 status_of NotYet = 3
 status_of NoEntry = 3
+status_of (Map fault) = 3
 status_of OutputFailed = 5
 status_of NoMemory = 7
 
--- a text that holds the name of a file or of a function takes memory, and so does a source's
+-- a text that holds the name of a file or of a function takes memory, and so does one with a number
 abbrev pub wants_memory : Refusal → Bool
 wants_memory (BadWord n) = false
 wants_memory Missing = true
@@ -66,6 +94,7 @@ wants_memory FileFailed = true
 wants_memory (Source line wrong) = true
 wants_memory NotYet = false
 wants_memory NoEntry = true
+wants_memory (Map fault) = true
 wants_memory OutputFailed = false
 wants_memory NoMemory = false
 

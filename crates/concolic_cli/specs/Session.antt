@@ -2,42 +2,22 @@
 use Rattle.std.specs.Prelude.{ℕ, ◌≡◌, ◌<◌, ◌≤◌, List, length, Option, Some, None, Result, Ok, Err}
 use Rattle.cc_base.specs.Limits.{Limits}
 use Rattle.cc_model.specs.Core.{Program}
-use Rattle.cc_model.specs.Tested.{tested}
-use Rattle.cc_model.specs.Listing.{Listing, IsComplete, path_count, run_count, tests, Begun, Sound, Enumerates}
-use Rattle.cc_model.specs.Report.{report_text, verdict_of}
-use Rattle.cc_model.specs.OneSum.{IsOneSum}
-use Rattle.cc_model.specs.Source.{IsProgram, Refuses, source_text, not_yet_text, no_entry_text}
 use Rattle.cc_outside.specs.Faults.{Rose}
 use Rattle.cc_outside.specs.Held.{Held, file_of}
 use Rattle.cc_outside.specs.Told.{appended, WritesPart}
-use Rattle.concolic_cli.specs.declared.refusal.Refusal.{Refusal}
-use Rattle.concolic_cli.specs.declared.refusal.Refusal.TheVariants.{BadWord, Missing, TooLong, FileFailed, Source, NotYet, NoEntry, OutputFailed, NoMemory}
+use Rattle.input_map.specs.declared.faults.MapFault.{MapFault}
+use Rattle.input_map.specs.CellFaults.{Refused}
 use Rattle.concolic_cli.specs.declared.answers.Status.{Status}
+use Rattle.concolic_cli.specs.declared.refusal.Refusal.{Refusal}
+use Rattle.concolic_cli.specs.declared.refusal.Refusal.TheVariants.{BadWord, Missing, TooLong, FileFailed, Source, NotYet, NoEntry, Map, OutputFailed, NoMemory}
 use Rattle.concolic_cli.specs.Refusals.{what_text}
+use Rattle.concolic_cli.specs.Sources.{Refuses, source_text, no_entry_text}
+use Rattle.concolic_cli.specs.Tasks.{Task, Work, list, trace, IsReport, AsksSomething, MapIsRefused}
 
 -- the bytes are the file's, as far as the files tell, and no more than a source may have
 pub record ReadAs (held : Option Held) (file bytes : List ℕ) : Type 0 where
   pub told : (h : Held) → held ≡ Some h → file_of file h ≡ Some bytes
   pub short : length bytes ≤ 1048576
-
--- a complete listing of the program's tested function, of at most so many runs: its tests enumerate the paths of every
--- input within the bounds, each once, in byte order, and each test is real
-pub record IsListing (p : Program) (b : Limits) (runs : ℕ) (l : Listing) : Type 0 where
-  pub bounds : l.bounds ≡ b
-  pub complete : IsComplete l
-  -- at this stage an accepted program has one path, whatever its input
-  pub one_path : path_count l ≡ 1
-  pub one_run : run_count l ≡ 1
-  pub begun : Begun None (tested p b) runs l.items
-  pub sound : Sound None (tested p b) l.items
-  pub enumerates : Enumerates None (tested p b) (tests l.items)
-
--- a listing of the program that the bytes are
-pub record Lists (bytes entry : List ℕ) (b : Limits) (runs : ℕ) (p : Program) (l : Listing) : Type 0 where
-  pub program : IsProgram bytes entry p
-  -- at this stage a program that is run is one sum
-  pub kind : IsOneSum ((program.checked).program).items
-  pub listing : IsListing p b runs l
 
 -- the cause of a refusal of the file
 abbrev pub FileCause : Option Held → (faults_old faults_new : ℕ) → List ℕ → Refusal → Type 0
@@ -49,19 +29,44 @@ FileCause held old new file (BadWord n) = ⊥
 FileCause held old new file (Source line wrong) = ⊥
 FileCause held old new file NotYet = ⊥
 FileCause held old new file NoEntry = ⊥
+FileCause held old new file (Map f) = ⊥
 FileCause held old new file OutputFailed = ⊥
 
+-- the program is accepted and its listing isn't made so far
+abbrev pub NotYetCause : (bytes entry : List ℕ) → Work → Type 0
+NotYetCause bytes entry (list b runs budget) = AsksSomething bytes entry b
+NotYetCause bytes entry (trace b map) = ⊥
+
+-- the program is accepted, and the map text has the fault
+abbrev pub MapRefusedCause : (bytes entry : List ℕ) → Work → MapFault → Type 0
+MapRefusedCause bytes entry (list b runs budget) f = ⊥
+MapRefusedCause bytes entry (trace b map) f = MapIsRefused bytes entry b map f
+
 -- the cause of a refusal of the bytes
-abbrev pub SourceCause : (bytes entry : List ℕ) → Refusal → Type 0
-SourceCause bytes entry (Source line wrong) = Refuses bytes entry (source_text line (what_text wrong))
-SourceCause bytes entry NotYet = Refuses bytes entry not_yet_text
-SourceCause bytes entry NoEntry = Refuses bytes entry (no_entry_text entry)
-SourceCause bytes entry NoMemory = Unit {0}
-SourceCause bytes entry (BadWord n) = ⊥
-SourceCause bytes entry Missing = ⊥
-SourceCause bytes entry TooLong = ⊥
-SourceCause bytes entry FileFailed = ⊥
-SourceCause bytes entry OutputFailed = ⊥
+abbrev pub SourceCause : (bytes entry : List ℕ) → Work → Refusal → Type 0
+SourceCause bytes entry work (Source line wrong) = Refuses bytes entry (source_text line (what_text wrong))
+SourceCause bytes entry work NotYet = NotYetCause bytes entry work
+SourceCause bytes entry work NoEntry = Refuses bytes entry (no_entry_text entry)
+SourceCause bytes entry work (Map f) = MapRefusedCause bytes entry work f
+SourceCause bytes entry work NoMemory = Unit {0}
+SourceCause bytes entry work (BadWord n) = ⊥
+SourceCause bytes entry work Missing = ⊥
+SourceCause bytes entry work TooLong = ⊥
+SourceCause bytes entry work FileFailed = ⊥
+SourceCause bytes entry work OutputFailed = ⊥
+
+-- the cause of a refusal of the text of an input
+abbrev pub MapCause : Program → Limits → List ℕ → Refusal → Type 0
+MapCause p b text (Map fault) = Refused p b text fault
+MapCause p b text NoMemory = Unit {0}
+MapCause p b text (BadWord n) = ⊥
+MapCause p b text Missing = ⊥
+MapCause p b text TooLong = ⊥
+MapCause p b text FileFailed = ⊥
+MapCause p b text (Source line wrong) = ⊥
+MapCause p b text NotYet = ⊥
+MapCause p b text NoEntry = ⊥
+MapCause p b text OutputFailed = ⊥
 
 -- the cause of a refusal of the output
 abbrev pub WriteCause : (faults_old faults_new : ℕ) → Refusal → Type 0
@@ -74,6 +79,7 @@ WriteCause old new FileFailed = ⊥
 WriteCause old new (Source line wrong) = ⊥
 WriteCause old new NotYet = ⊥
 WriteCause old new NoEntry = ⊥
+WriteCause old new (Map f) = ⊥
 
 -- what a session sees of the outside before and after: the files held, their faults, what is written, and its faults
 pub record Seen : Type 0 where
@@ -85,40 +91,38 @@ pub record Seen : Type 0 where
   pub faults_old : ℕ
   pub faults_new : ℕ
 
-module _ (seen : Seen) (file entry : List ℕ) (b : Limits) (runs : ℕ) where
-  -- the report of a complete listing of the file's program was written
-  pub record Listed (status : ℕ) : Type 0 where
-    pub bytes : List ℕ
-    pub program : Program
-    pub listing : Listing
-    pub read : ReadAs seen.held file bytes
-    pub lists : Lists bytes entry b runs program listing
-    pub written : seen.out_new ≡ appended seen.out_old (report_text listing)
-    pub verdict : status ≡ verdict_of listing
+-- the file's bytes were read, and the text that the task asks for was written
+pub record Wrote (held : Option Held) (out_old out_new : Option (List ℕ)) (task : Task) (status : ℕ) : Type 0 where
+  pub bytes : List ℕ
+  pub text : List ℕ
+  pub read : ReadAs held task.file bytes
+  pub report : IsReport bytes task.entry task.work text status
+  pub written : out_new ≡ appended out_old text
 
-  -- a first part of the report of a complete listing of the file's program was written
-  pub record ReportBegun : Type 0 where
-    pub bytes : List ℕ
-    pub program : Program
-    pub listing : Listing
-    pub read : ReadAs seen.held file bytes
-    pub lists : Lists bytes entry b runs program listing
-    pub written : WritesPart seen.out_old seen.out_new (report_text listing)
+-- a first part of such a text was written
+pub record WroteFirst (held : Option Held) (out_old out_new : Option (List ℕ)) (task : Task) : Type 0 where
+  pub bytes : List ℕ
+  pub text : List ℕ
+  pub status : ℕ
+  pub read : ReadAs held task.file bytes
+  pub report : IsReport bytes task.entry task.work text status
+  pub written : WritesPart out_old out_new text
 
-  -- nothing was written, or a first part of such a report
-  pub data Stands : Type 0 where
-    nothing : seen.out_new ≡ seen.out_old → Stands
-    part : ReportBegun → Stands
+-- nothing was written, or a first part of such a text
+pub data Stands (held : Option Held) (out_old out_new : Option (List ℕ)) (task : Task) : Type 0 where
+  nothing : out_new ≡ out_old → Stands held out_old out_new task
+  part : WroteFirst held out_old out_new task → Stands held out_old out_new task
 
+module _ (seen : Seen) (task : Task) where
   -- the file was refused, and nothing was written
   abbrev pub FileRefused : Refusal → Type 0
-  FileRefused e = FileCause seen.held seen.files_old seen.files_new file e × (seen.out_new ≡ seen.out_old)
+  FileRefused e = FileCause seen.held seen.files_old seen.files_new task.file e × (seen.out_new ≡ seen.out_old)
 
   -- the file's bytes were refused, and nothing was written
   pub record SourceRefused (e : Refusal) : Type 0 where
     pub bytes : List ℕ
-    pub read : ReadAs seen.held file bytes
-    pub cause : SourceCause bytes entry e
+    pub read : ReadAs seen.held task.file bytes
+    pub cause : SourceCause bytes task.entry task.work e
     pub silent : seen.out_new ≡ seen.out_old
 
   -- the cause of a refusal
@@ -130,10 +134,11 @@ module _ (seen : Seen) (file entry : List ℕ) (b : Limits) (runs : ℕ) where
   Cause (Source line wrong) = SourceRefused (Source line wrong)
   Cause NotYet = SourceRefused NotYet
   Cause NoEntry = SourceRefused NoEntry
-  Cause OutputFailed = Rose seen.faults_old seen.faults_new × ReportBegun
-  Cause NoMemory = Stands
+  Cause (Map f) = SourceRefused (Map f)
+  Cause OutputFailed = Rose seen.faults_old seen.faults_new × WroteFirst seen.held seen.out_old seen.out_new task
+  Cause NoMemory = Stands seen.held seen.out_old seen.out_new task
 
   -- a session ends with a status and its report, or with a refusal and its cause
   abbrev pub Ends : Result Status Refusal → Type 0
-  Ends (Ok status) = Listed status.0
+  Ends (Ok status) = Wrote seen.held seen.out_old seen.out_new task status.0
   Ends (Err e) = Cause e

@@ -2,14 +2,15 @@
 
 ghost use Rattle.std.specs.Prelude.{◌≡◌, ◌++◌, ◌^◌, ◌<◌, ◌≤◌, IfOk, codes, true};
 ghost use Rattle.cc_outside.specs.Faults.{Rose};
-ghost use Rattle.concolic_cli.specs.Refusals.{bad_word_text, file_text, what_text, refusal_line, Says, IsAnswered, wants_memory, status_of};
+ghost use Rattle.concolic_cli.specs.Refusals.{bad_word_text, file_text, map_text_of, map_what, what_text, refusal_line, Says, IsAnswered, wants_memory, status_of};
 ghost use Rattle.cc_model.specs.Report.{newline};
-ghost use Rattle.cc_model.specs.Source.{source_text, no_entry_text};
+ghost use Rattle.concolic_cli.specs.Sources.{source_text, no_entry_text};
 
 use crate::refusal::{Refusal, Wrong};
 use arrayvec::ArrayString;
 use cc_model::base::NoMemory;
 use cc_outside::Sink;
+use input_map::MapFault;
 use itoa::Buffer;
 use std::alloc::Global;
 
@@ -81,6 +82,39 @@ fn no_entry_line(alloc: Global, entry: &str) -> Result<Vec<u8>, NoMemory>
     Ok(text)
 }
 
+/// `map: WHAT`, with a number behind it.
+fn numbered_line(alloc: Global, what: &str, number: &str) -> Result<Vec<u8>, NoMemory>
+    ensures { IfOk result (λ text. text.items ≡ codes "map: " ++ (what.now ++ number.now) ++ newline) }
+{
+    let mut text = Vec::from_slice(alloc, b"map: ")?;
+    text.extend_from_slice(what.as_bytes())?;
+    text.extend_from_slice(number.as_bytes())?;
+    text.push(b'\n')?;
+    Ok(text)
+}
+
+/// `map: WHAT`
+fn map_line(alloc: Global, fault: MapFault) -> Result<Vec<u8>, NoMemory>
+    ensures { IfOk result (λ text. text.items ≡ map_text_of fault ++ newline) }
+{
+    let mut number = Buffer::new();
+    match fault {
+        MapFault::Malformed(byte) => numbered_line(alloc, "malformed at ", number.format(byte)),
+        MapFault::NotCanonical(address) => {
+            numbered_line(alloc, "not canonical at ", number.format(address))
+        }
+        MapFault::Short => numbered_line(alloc, "short", ""),
+        MapFault::Long(address) => numbered_line(alloc, "too long at ", number.format(address)),
+        MapFault::OutOfBounds(address) => {
+            numbered_line(alloc, "out of bounds at ", number.format(address))
+        }
+        MapFault::StreamOutOfBounds(place) => {
+            numbered_line(alloc, "stream out of bounds at ", number.format(place))
+        }
+        MapFault::NoMemory => numbered_line(alloc, "no memory", ""),
+    }
+}
+
 /// Says a line. A failure of the error sink changes nothing else.
 fn say<E: Sink>(err: &mut E, line: &[u8])
     ensures { Says (E.written err.old) (E.written err.new) (E.faults err.old) (E.faults err.new) line.now }
@@ -99,6 +133,7 @@ fn line_of(alloc: Global, refusal: Refusal, file: &str, entry: &str) -> Result<V
         Refusal::FileFailed => file_line(alloc, file, "failed"),
         Refusal::Source(line, wrong) => source_line(alloc, line, wrong),
         Refusal::NoEntry => no_entry_line(alloc, entry),
+        Refusal::Map(fault) => map_line(alloc, fault),
         Refusal::BadWord(_) | Refusal::NotYet | Refusal::OutputFailed | Refusal::NoMemory => {
             unreachable!()
         }
@@ -160,7 +195,7 @@ pub fn refuse<E: Sink>(
         Refusal::Missing | Refusal::TooLong | Refusal::FileFailed => {
             refuse_by_line(alloc, refusal, 4, file, entry, err)
         }
-        Refusal::Source(_, _) | Refusal::NoEntry => {
+        Refusal::Source(_, _) | Refusal::NoEntry | Refusal::Map(_) => {
             refuse_by_line(alloc, refusal, 3, file, entry, err)
         }
     }

@@ -1,45 +1,56 @@
 //! The one call that does all that the program does.
 
-ghost use Rattle.std.specs.Prelude.{◌≡◌, ℕ, ◌^◌, ◌<◌, ◌≤◌, ◌⊎◌, ◌↔◌, ◌++◌, List, length, codes, Some, None};
+ghost use Rattle.std.specs.Prelude.{◌≡◌, ℕ, ◌^◌, ◌<◌, ◌≤◌, ◌⊎◌, ◌↔◌, ◌++◌, ◌∷◌, List, [], length, codes, Some, None};
+ghost use Rattle.cc_base.specs.declared.inputs.Input.{Input};
+ghost use Rattle.cc_base.specs.Paths.{In};
 ghost use Rattle.cc_model.specs.declared.commands.RunWords.{RunWords};
-ghost use Rattle.cc_model.specs.declared.commands.Command.TheVariants.{Run};
-ghost use Rattle.cc_model.specs.Core.{Program};
+ghost use Rattle.cc_model.specs.declared.commands.TraceWords.{TraceWords};
+ghost use Rattle.cc_model.specs.declared.commands.Command.TheVariants.{Run, Trace};
 ghost use Rattle.cc_model.specs.Report.{newline};
-ghost use Rattle.cc_model.specs.OneSum.{IsOneSum};
-ghost use Rattle.cc_model.specs.Source.{IsProgram, Refuses};
-ghost use Rattle.cc_model.specs.Words.{texts, Accepted, BadWord};
+ghost use Rattle.cc_model.specs.Runs.{IsInput};
 ghost use Rattle.cc_outside.specs.Faults.{Rose};
 ghost use Rattle.cc_outside.specs.Held.{Held, file_of};
+ghost use Rattle.input_map.specs.Maps.{IsMap};
+ghost use Rattle.input_map.specs.CellFaults.{Refused};
+ghost use Rattle.input_map.specs.declared.faults.MapFault.{MapFault};
+ghost use Rattle.concolic_cli.specs.Concolic.{HasNoCommand, IsSource, IsSourceOf, Headline, PartStands, SourceIsRefused, FileIsRefused, IsRefusal, Answered};
+ghost use Rattle.concolic_cli.specs.Listings.{AsksNothing};
 ghost use Rattle.concolic_cli.specs.Refusals.{bad_word_text, Says};
-ghost use Rattle.concolic_cli.specs.Concolic.{word_of, HasNoCommand, IsSource, Headline, PartOfReport, SourceIsRefused, FileIsRefused, Answered};
+ghost use Rattle.concolic_cli.specs.Session.{Wrote};
+ghost use Rattle.concolic_cli.specs.Sources.{Refuses};
+ghost use Rattle.concolic_cli.specs.Tasks.{Task, Asks, word_of, list_task, trace_task};
+ghost use Rattle.concolic_cli.specs.Words.{texts, Accepted, BadWord};
 
 use crate::answers::{Status, refuse};
 use crate::refusal::Refusal;
-use crate::session::session;
-use crate::words::read_words;
+use crate::session::{list_tests, tell_run};
+use crate::words::{one_command, read_words};
 use c_parse::one_program;
-use cc_model::Command;
+use cc_model::{Command, RunWords, TraceWords};
 use cc_outside::{Files, Sink};
 use std::alloc::Global;
 
-/// Word number `number`, from 1.
+/// Word number `number`, from 1; empty where there is no such word.
 fn word(words: &[String], number: u32) -> &str
-    requires low { 1 ≤ number }
-    requires high { number ≤ length words.now }
     ensures { result.now ≡ word_of (texts words.now) number }
 {
-    words[number as usize - 1].as_str()
+    match words.get((number as usize).saturating_sub(1)) {
+        Some(word) => word.as_str(),
+        None => "",
+    }
 }
 
-/// Answers a call.
-fn answer<F: Files, K: Sink, E: Sink>(
+/// Answers a call whose words are `run` and what follows.
+fn answer_run<F: Files, K: Sink, E: Sink>(
     alloc: Global,
     words: &[String],
+    run: &RunWords,
     files: &mut F,
     out: &mut K,
     err: &mut E,
 ) -> Status
-    ensures bad_words { (result.0 ≡ 2) ↔ HasNoCommand (texts words.now) }
+    requires accepted { Accepted (texts words.now) (Run run.now) }
+    requires runs { 1 ≤ run.now.runs }
     ensures answered { Answered (record {
       words = texts words.now;
       seen = record {
@@ -58,24 +69,92 @@ fn answer<F: Files, K: Sink, E: Sink>(
     }) result.0 }
     ensures held { F.held files.new ≡ F.held files.old }
 {
-    let run = match read_words(words) {
-        Ok(Command::Run(run)) => run,
-        Ok(_) => unreachable!(),
-        Err(bad) => return refuse(alloc, Refusal::BadWord(bad), "", "", err),
-    };
     let file = word(words, run.file);
     let entry = word(words, run.entry);
-    match session(alloc, &run, file, entry, files, out) {
+    match list_tests(alloc, run, file, entry, files, out) {
         Ok(status) => status,
         Err(refusal) => refuse(alloc, refusal, file, entry, err),
     }
 }
 
-/// Does what the words of the command line ask: reads the file of a source, lists the paths of its tested function, and
-/// writes the report to `out`; where it refuses, it says why in one line to `err`.
+/// Answers a call whose words are `trace` and what follows.
+fn answer_trace<F: Files, K: Sink, E: Sink>(
+    alloc: Global,
+    words: &[String],
+    trace: &TraceWords,
+    files: &mut F,
+    out: &mut K,
+    err: &mut E,
+) -> Status
+    requires { Accepted (texts words.now) (Trace trace.now) }
+    ensures answered { Answered (record {
+      words = texts words.now;
+      seen = record {
+        held = F.held files.old;
+        files_old = F.faults files.old;
+        files_new = F.faults files.new;
+        out_old = K.written out.old;
+        out_new = K.written out.new;
+        faults_old = K.faults out.old;
+        faults_new = K.faults out.new;
+      };
+      err_old = E.written err.old;
+      err_new = E.written err.new;
+      err_faults_old = E.faults err.old;
+      err_faults_new = E.faults err.new;
+    }) result.0 }
+    ensures held { F.held files.new ≡ F.held files.old }
+{
+    let file = word(words, trace.file);
+    let entry = word(words, trace.entry);
+    let map = word(words, trace.map);
+    match tell_run(alloc, &trace.bounds, map, file, entry, files, out) {
+        Ok(status) => status,
+        Err(refusal) => refuse(alloc, refusal, file, entry, err),
+    }
+}
+
+/// Answers a call.
+fn answer<F: Files, K: Sink, E: Sink>(
+    alloc: Global,
+    words: &[String],
+    files: &mut F,
+    out: &mut K,
+    err: &mut E,
+) -> Status
+    ensures answered { Answered (record {
+      words = texts words.now;
+      seen = record {
+        held = F.held files.old;
+        files_old = F.faults files.old;
+        files_new = F.faults files.new;
+        out_old = K.written out.old;
+        out_new = K.written out.new;
+        faults_old = K.faults out.old;
+        faults_new = K.faults out.new;
+      };
+      err_old = E.written err.old;
+      err_new = E.written err.new;
+      err_faults_old = E.faults err.old;
+      err_faults_new = E.faults err.new;
+    }) result.0 }
+    ensures held { F.held files.new ≡ F.held files.old }
+{
+    match read_words(words) {
+        Ok(Command::Run(run)) => answer_run(alloc, words, &run, files, out, err),
+        Ok(Command::Trace(trace)) => answer_trace(alloc, words, &trace, files, out, err),
+        Ok(Command::Replay(_) | Command::Make(_)) => unreachable!(),
+        Err(bad) => refuse(alloc, Refusal::BadWord(bad), "", "", err),
+    }
+}
+
+/// Does what the words of the command line ask: reads the file of a source, and either lists the paths of its tested
+/// function and writes the report, or runs that function on one input and writes what the run does; where it refuses, it
+/// says why in one line to `err`.
 ///
-/// The statuses: 0 and 1 a complete listing, 1 where a listed test ends as a fault; 2 the words are no command; 3 the
-/// source is refused; 4 its file is; 5 the output failed; 7 want of memory, the one answer that nothing else explains.
+/// The statuses: 0 and 1 a complete listing or a run, 1 where a listed test or the run ends as a fault; 2 the words are no
+/// command; 3 the source or the map is refused; 4 the file is; 5 the output failed; 7 want of memory, the one answer that
+/// nothing else explains; 10 and 11 an incomplete listing, 11 where a listed test ends as a fault.
 pub fn concolic<F: Files, K: Sink, E: Sink>(
     alloc: Global,
     words: &[String],
@@ -83,48 +162,77 @@ pub fn concolic<F: Files, K: Sink, E: Sink>(
     out: &mut K,
     err: &mut E,
 ) -> Status
-    // 0 and 1: the report of a complete listing was written, and nothing was said.
-    ensures headline { (result.0 ≡ 0) ⊎ (result.0 ≡ 1)
-        → Headline (texts words.now) (F.held files.old) (K.written out.old) (K.written out.new) result.0 }
-    ensures quiet { result.0 ≤ 1 → E.written err.new ≡ E.written err.old }
+    // `run`, 0 and 1: the report of a complete listing was written.
+    ensures headline { (run : RunWords) → Accepted (texts words.now) (Run run) → (result.0 ≡ 0) ⊎ (result.0 ≡ 1)
+        → Headline (texts words.now) run (F.held files.old) (K.written out.old) (K.written out.new) result.0 }
 
-    // They come where nothing is refused and nothing fails, unless memory is wanting. So far, a program that is run is one sum.
-    ensures complete { (run : RunWords) (bytes : List ℕ) (program : Program) → IsSource (texts words.now) run (F.held files.old) bytes
-        → (read : IsProgram bytes (word_of (texts words.now) run.entry) program) → IsOneSum ((read.checked).program).items
+    // `run`, 0, 1, 10 and 11: the report of a listing was written, and the status is its verdict.
+    ensures listed { (run : RunWords) → Accepted (texts words.now) (Run run) → In result.0 (0 ∷ 1 ∷ 10 ∷ 11 ∷ [])
+        → Wrote (F.held files.old) (K.written out.old) (K.written out.new) (list_task (texts words.now) run) result.0 }
+
+    // `trace`, 0 and 1: the run on the input of the map was written; 1 where it ends as a fault.
+    ensures traced { (trace : TraceWords) → Accepted (texts words.now) (Trace trace) → result.0 ≤ 1
+        → Wrote (F.held files.old) (K.written out.old) (K.written out.new) (trace_task (texts words.now) trace) result.0 }
+    ensures quiet { In result.0 (0 ∷ 1 ∷ 10 ∷ 11 ∷ []) → E.written err.new ≡ E.written err.old }
+
+    // They come where nothing is refused and nothing fails, unless memory is wanting. So far, a program that `run` runs asks
+    // nothing of its input.
+    ensures complete { (run : RunWords) (bytes : List ℕ) → Accepted (texts words.now) (Run run)
+        → IsSource (list_task (texts words.now) run) (F.held files.old) bytes
+        → IsSourceOf bytes (word_of (texts words.now) run.entry) (λ p. AsksNothing p run.bounds)
         → (Rose (F.faults files.old) (F.faults files.new) → ⊥) → (Rose (K.faults out.old) (K.faults out.new) → ⊥)
-        → (result.0 ≡ 0) ⊎ ((result.0 ≡ 1) ⊎ (result.0 ≡ 7)) }
+        → In result.0 (0 ∷ 1 ∷ 7 ∷ 10 ∷ 11 ∷ []) }
+    ensures complete_trace { (trace : TraceWords) (bytes : List ℕ) (h : Input) → Accepted (texts words.now) (Trace trace)
+        → IsSource (trace_task (texts words.now) trace) (F.held files.old) bytes
+        → IsMap (word_of (texts words.now) trace.map) h
+        → IsSourceOf bytes (word_of (texts words.now) trace.entry) (λ p. IsInput p trace.bounds h)
+        → (Rose (F.faults files.old) (F.faults files.new) → ⊥) → (Rose (K.faults out.old) (K.faults out.new) → ⊥)
+        → In result.0 (0 ∷ 1 ∷ 7 ∷ []) }
 
     // 2: exactly where the words are no command; the bad word is named.
     ensures bad_words { (result.0 ≡ 2) ↔ HasNoCommand (texts words.now) }
     ensures bad_word { result.0 ≡ 2 → (n : ℕ) × BadWord (texts words.now) n
         × Says (E.written err.old) (E.written err.new) (E.faults err.old) (E.faults err.new) (bad_word_text n ++ newline) }
 
-    // 3: exactly where the source is refused; the text is the source's.
+    // 3: exactly where the source is refused, or for `run` its program asks something of its input, or for `trace` the map is
+    // refused; the text is that of the first of these.
     ensures source_refused { result.0 ≡ 3
         → SourceIsRefused (texts words.now) (F.held files.old) (E.written err.old) (E.written err.new) (E.faults err.old) (E.faults err.new) }
-    ensures refused_source { (run : RunWords) (bytes text : List ℕ) → IsSource (texts words.now) run (F.held files.old) bytes
-        → Refuses bytes (word_of (texts words.now) run.entry) text
-        → (result.0 ≡ 3) ⊎ ((result.0 ≡ 7) ⊎ ((result.0 ≡ 4) × Rose (F.faults files.old) (F.faults files.new))) }
+    ensures refused_source { (task : Task) (bytes text : List ℕ) → Asks (texts words.now) task → IsSource task (F.held files.old) bytes
+        → Refuses bytes task.entry text → IsRefusal (F.faults files.old) (F.faults files.new) result.0 }
+    ensures refused_map { (trace : TraceWords) (bytes : List ℕ) (f : MapFault) → Accepted (texts words.now) (Trace trace)
+        → IsSource (trace_task (texts words.now) trace) (F.held files.old) bytes
+        → IsSourceOf bytes (word_of (texts words.now) trace.entry) (λ p. Refused p trace.bounds (word_of (texts words.now) trace.map) f)
+        → IsRefusal (F.faults files.old) (F.faults files.new) result.0 }
+    ensures not_yet { (run : RunWords) (bytes : List ℕ) → Accepted (texts words.now) (Run run)
+        → IsSource (list_task (texts words.now) run) (F.held files.old) bytes
+        → IsSourceOf bytes (word_of (texts words.now) run.entry) (λ p. AsksNothing p run.bounds → ⊥)
+        → IsRefusal (F.faults files.old) (F.faults files.new) result.0 }
 
     // 4: each text by its cause; where the files are told, exactly where there is no such file or it is too long.
     ensures file_refused { result.0 ≡ 4
         → FileIsRefused (texts words.now) (F.held files.old) (F.faults files.old) (F.faults files.new) (E.written err.old) (E.written err.new) (E.faults err.old) (E.faults err.new) }
-    ensures missing_file { (run : RunWords) (h : Held) → Accepted (texts words.now) (Run run) → F.held files.old ≡ Some h
-        → file_of (word_of (texts words.now) run.file) h ≡ None → (result.0 ≡ 4) ⊎ (result.0 ≡ 7) }
-    ensures too_long_file { (run : RunWords) (h : Held) (bytes : List ℕ) → Accepted (texts words.now) (Run run) → F.held files.old ≡ Some h
-        → file_of (word_of (texts words.now) run.file) h ≡ Some bytes → 1048576 < length bytes → (result.0 ≡ 4) ⊎ (result.0 ≡ 7) }
+    ensures missing_file { (task : Task) (h : Held) → Asks (texts words.now) task → F.held files.old ≡ Some h
+        → file_of task.file h ≡ None → (result.0 ≡ 4) ⊎ (result.0 ≡ 7) }
+    ensures too_long_file { (task : Task) (h : Held) (bytes : List ℕ) → Asks (texts words.now) task → F.held files.old ≡ Some h
+        → file_of task.file h ≡ Some bytes → 1048576 < length bytes → (result.0 ≡ 4) ⊎ (result.0 ≡ 7) }
 
-    // 5: only where the output failed in this call. 7: want of memory. A first part of the report stands.
+    // 5: only where the output failed in this call. 7: want of memory. A first part of what is written stands.
     ensures output_failed { result.0 ≡ 5 → Rose (K.faults out.old) (K.faults out.new)
         × Says (E.written err.old) (E.written err.new) (E.faults err.old) (E.faults err.new) (codes "output failed" ++ newline) }
     ensures no_memory { result.0 ≡ 7
         → Says (E.written err.old) (E.written err.new) (E.faults err.old) (E.faults err.new) (codes "no memory" ++ newline) }
-    ensures stands { (result.0 ≡ 5) ⊎ (result.0 ≡ 7) → PartOfReport (texts words.now) (F.held files.old) (K.written out.old) (K.written out.new) }
+    ensures stands { (result.0 ≡ 5) ⊎ (result.0 ≡ 7) → PartStands (texts words.now) (F.held files.old) (K.written out.old) (K.written out.new) }
     ensures silent { 2 ≤ result.0 → result.0 ≤ 4 → K.written out.new ≡ K.written out.old }
+
+    // No other status comes, and 10 and 11 for `run` alone.
+    ensures statuses { In result.0 (0 ∷ 1 ∷ 2 ∷ 3 ∷ 4 ∷ 5 ∷ 7 ∷ 10 ∷ 11 ∷ []) }
+    ensures run_alone { 10 ≤ result.0 → (run : RunWords) × Accepted (texts words.now) (Run run) }
 
     // A call leaves the files as they were.
     ensures held { F.held files.new ≡ F.held files.old }
 {
     one_program();
+    one_command();
     answer(alloc, words, files, out, err)
 }

@@ -3,13 +3,20 @@
 
 mod answers;
 mod call;
+mod lines;
+mod listing;
+mod map_words;
+mod one_run;
+mod prepared;
 mod program;
 mod refusal;
 mod report;
 mod session;
-mod sums;
+mod tracing;
 pub mod words;
+mod writing;
 
 pub use answers::Status;
 pub use call::concolic;
+pub use one_run::a_run_that_asks_nothing_is_a_listing;
 pub use words::read_words;

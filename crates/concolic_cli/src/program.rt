@@ -1,27 +1,20 @@
-//! From the bytes of a source to the sum that its tested function returns.
+//! From the bytes of a source to its checked program.
 
-ghost use Rattle.std.specs.Prelude.{◌≡◌, ℕ, ◌^◌, ◌<◌, ◌≤◌, ◌+◌, Ok, IfOk, IfErr, IfSome, IfNone, length, List, take, count_by, IsTrue, ◌↔◌, ◌∷◌, []};
+ghost use Rattle.std.specs.Prelude.{◌≡◌, ℕ, ◌^◌, ◌<◌, ◌≤◌, ◌+◌, Ok, IfOk, IfErr, length, List, take, count_by};
 ghost use Rattle.c_lex.specs.Faults.{Fails};
 ghost use Rattle.c_types.specs.Refused.{IsTypeFault};
 ghost use Rattle.cc_model.specs.Lexical.{tokens_of, line_at, is_newline};
 ghost use Rattle.cc_model.specs.Reads.{Accepts};
-ghost use Rattle.cc_model.specs.OneSum.{plain_int, ReturnsSum, IsOneSum};
 ghost use Rattle.cc_model.specs.Source.{text_at, place_line};
-ghost use Rattle.concolic_cli.specs.Programs.{ReadsAs, IsNoProgram, Returns, IsSumOf};
-ghost use Rattle.cc_model.specs.declared.trees.Expr.{Expr};
+ghost use Rattle.concolic_cli.specs.Programs.{ReadsAs, IsNoProgram};
 ghost use Rattle.cc_model.specs.declared.trees.Program.{Program};
 
 use crate::refusal::{Refusal, Wrong};
-use crate::sums::is_sum_within;
 use c_lex::{LexFault, lex};
 use c_parse::{ParseFault, parse};
 use c_types::{TypeFault, check};
-use cc_model::trees::{Base, Item, Part, ResultType, TypeName};
-use cc_model::{Checked, Expr, Func, Program, Stmt, Token};
+use cc_model::{Checked, Token};
 use std::alloc::Global;
-
-/// How many operators of a sum may stand one within the other, which is more than an accepted one can have.
-const DEEPEST: u32 = 20_000;
 
 /// The bytes before an offset.
 fn before(source: &[u8], offset: u32) -> &[u8]
@@ -138,68 +131,4 @@ pub fn read_program(alloc: Global, source: &[u8], entry: &str) -> Result<Source,
         Err(fault) => return Err(refusal_in(source, &tokens, fault)),
     };
     Ok(Source { tokens, checked })
-}
-
-/// The expression that a function returns, where it does nothing else.
-fn returned(function: &Func) -> Option<&Expr>
-    ensures some { IfSome result (λ e. Returns function.now e.now) }
-    ensures none { IfNone result ((e : Expr) → Returns function.now e → ⊥) }
-{
-    match function.body.as_slice() {
-        [Part::Stmt(Stmt::Return(_, Some(value)))] => Some(value),
-        _ => None,
-    }
-}
-
-/// Whether a function gives an `int` and has no parameters.
-fn is_plain(function: &Func) -> bool
-    ensures { IsTrue result ↔ (((function.now).result ≡ plain_int) × ((function.now).params ≡ [])) }
-{
-    match function.result {
-        ResultType::Value(
-            TypeName {
-                base: Base::Int,
-                stars: 0,
-            },
-        ) => function.params.is_empty(),
-        _ => false,
-    }
-}
-
-/// The sum that an `int` function without parameters returns, where it does nothing else.
-fn returned_sum(function: &Func) -> Option<&Expr>
-    ensures some { IfSome result (λ e. ReturnsSum function.now e.now) }
-    ensures none { IfNone result ((e : Expr) → ReturnsSum function.now e → ⊥) }
-{
-    let Some(value) = returned(function) else {
-        return None;
-    };
-    if is_plain(function) && is_sum_within(value, DEEPEST) {
-        Some(value)
-    } else {
-        None
-    }
-}
-
-/// The sum that a function returns, where the item is one whose file is run so far.
-fn sum_of(item: &Item) -> Option<&Expr>
-    ensures some { IfSome result (λ e. IsSumOf (item.now ∷ []) e.now) }
-    ensures none { IfNone result (IsOneSum (item.now ∷ []) → ⊥) }
-{
-    match item {
-        Item::Func(function) => returned_sum(function),
-        Item::Alias(_, _) | Item::Struct(_) | Item::Globals(_, _) | Item::Prototype(_, _, _) =>
-            None,
-    }
-}
-
-/// The sum that the one function of a program returns; None where the program is none of those that are run so far.
-pub fn tested_sum(program: &Program) -> Option<&Expr>
-    ensures some { IfSome result (λ e. IsSumOf (program.now).items e.now) }
-    ensures none { IfNone result (IsOneSum (program.now).items → ⊥) }
-{
-    match program.items.as_slice() {
-        [item] => sum_of(item),
-        _ => None,
-    }
 }

@@ -5,6 +5,7 @@ ghost use Rattle.std.specs.Prelude.{◌≡◌, ◌++◌, ◌^◌, ◌<◌, ◌�
 use arrayvec::ArrayString;
 use cc_model::base::NoMemory;
 use cc_outside::Sink;
+use input_map::MapFault;
 use itoa::Buffer;
 use std::alloc::Global;
 
@@ -46,10 +47,12 @@ pub enum Refusal {
     FileFailed,
     /// The line of the source, from 1, and what is wrong there.
     Source(u32, Wrong),
-    /// The program is accepted, and is none of those that are run so far.
+    /// The program is accepted, and the run on its base input asks something of the input, which isn't searched so far.
     NotYet,
     /// No function with a body has the entry's name.
     NoEntry,
+    /// Why the word MAP is the map text of no input within the bounds; never want of memory.
+    Map(MapFault),
     /// The output could not be written.
     OutputFailed,
     /// Want of memory.

@@ -1,18 +1,17 @@
-//! A session: from the file of a source to the report on its tested function.
+//! A session: from the file of a source to what is written of its tested function.
 
-ghost use Rattle.std.specs.Prelude.{◌≡◌, ℕ, ◌+◌, ◌^◌, ◌<◌, ◌≤◌, IfOk, IfErr, OnOk, OnErr, length};
-ghost use Rattle.cc_outside.specs.Told.{appended, WritesPart};
-ghost use Rattle.concolic_cli.specs.Lines.{text_of, ReportsOn};
-ghost use Rattle.concolic_cli.specs.Session.{ReadAs, FileCause, SourceCause, WriteCause, Ends};
+ghost use Rattle.std.specs.Prelude.{◌≡◌, ◌^◌, ◌<◌, ◌≤◌, IfOk, IfErr, length};
+ghost use Rattle.concolic_cli.specs.Session.{ReadAs, FileCause, Ends};
+ghost use Rattle.concolic_cli.specs.Tasks.{list, trace};
 
 use crate::answers::Status;
-use crate::program::{read_program, tested_sum};
+use crate::prepared::{prepare_list, prepare_trace};
 use crate::refusal::Refusal;
-use crate::report::{Report, report_on};
-use crate::sums::run;
+use crate::tracing::write_trace;
+use crate::writing::write_report;
 use cc_model::RunWords;
-use cc_model::base::NoMemory;
-use cc_outside::{Files, LoadFault, Sink, SinkFault};
+use cc_model::base::Bounds;
+use cc_outside::{Files, LoadFault, Sink};
 use std::alloc::Global;
 
 /// How many bytes a source may have.
@@ -33,59 +32,8 @@ fn read_source<F: Files>(alloc: Global, files: &mut F, file: &str) -> Result<Vec
     }
 }
 
-/// The report on a source's tested function.
-fn prepare(alloc: Global, source: &[u8], entry: &str, words: &RunWords) -> Result<Report, Refusal>
-    requires size { length source.now ≤ 1048576 }
-    requires steps { (words.now).bounds.depth + 20002 ≤ (words.now).bounds.steps }
-    requires runs { 1 ≤ (words.now).runs }
-    ensures reports { IfOk result (λ r. ReportsOn source.now entry.now (words.now).bounds (words.now).runs r) }
-    ensures source_refused { IfErr result (λ e. SourceCause source.now entry.now e) }
-{
-    let read = match read_program(alloc, source, entry) {
-        Ok(read) => read,
-        Err(refusal) => return Err(refusal),
-    };
-    let Some(sum) = tested_sum(&read.checked.program) else {
-        return Err(Refusal::NotYet);
-    };
-    let Ok(ran) = run(alloc, &read.tokens, words.bounds.depth(), sum) else {
-        return Err(Refusal::NoMemory);
-    };
-    match report_on(alloc, &words.bounds, &ran) {
-        Ok(report) => Ok(report),
-        Err(NoMemory) => Err(Refusal::NoMemory),
-    }
-}
-
-/// Writes a line of the report.
-fn write_line<K: Sink>(out: &mut K, line: &[u8]) -> Result<(), Refusal>
-    ensures output_failed { IfErr result (λ e. WriteCause (K.faults out.old) (K.faults out.new) e) }
-    ensures ok { OnOk result (K.written out.new ≡ appended (K.written out.old) line.now) }
-    ensures part { OnErr result (WritesPart (K.written out.old) (K.written out.new) line.now) }
-    ensures never_falls { K.faults out.old ≤ K.faults out.new }
-    ensures bounded { K.faults out.new < 2 ^ 64 }
-{
-    match out.write(line) {
-        Ok(()) => Ok(()),
-        Err(SinkFault::Failed) => Err(Refusal::OutputFailed),
-        Err(SinkFault::NoMemory) => Err(Refusal::NoMemory),
-    }
-}
-
-/// Writes the lines of a report, each by a write of its own.
-fn write_report<K: Sink>(out: &mut K, report: &Report) -> Result<(), Refusal>
-    ensures output_failed { IfErr result (λ e. WriteCause (K.faults out.old) (K.faults out.new) e) }
-    ensures ok { OnOk result (K.written out.new ≡ appended (K.written out.old) (text_of report.now)) }
-    ensures part { OnErr result (WritesPart (K.written out.old) (K.written out.new) (text_of report.now)) }
-{
-    write_line(out, &report.bounds)?;
-    write_line(out, &report.test)?;
-    write_line(out, &report.last)?;
-    Ok(())
-}
-
-/// A session with these words, of which `file` and `entry` are two.
-pub fn session<F: Files, K: Sink>(
+/// Lists the tests of the function `entry` of the source in `file`, and writes the report.
+pub fn list_tests<F: Files, K: Sink>(
     alloc: Global,
     words: &RunWords,
     file: &str,
@@ -93,8 +41,7 @@ pub fn session<F: Files, K: Sink>(
     files: &mut F,
     out: &mut K,
 ) -> Result<Status, Refusal>
-    requires steps { (words.now).bounds.depth + 20002 ≤ (words.now).bounds.steps }
-    requires runs { 1 ≤ (words.now).runs }
+    requires { 1 ≤ (words.now).runs }
     ensures ends { Ends (record {
       held = F.held files.old;
       files_old = F.faults files.old;
@@ -103,13 +50,43 @@ pub fn session<F: Files, K: Sink>(
       out_new = K.written out.new;
       faults_old = K.faults out.old;
       faults_new = K.faults out.new;
-    }) file.now entry.now (words.now).bounds (words.now).runs result }
+    }) (record { file = file.now; entry = entry.now; work = list (words.now).bounds (words.now).runs (words.now).budget }) result }
     ensures held { F.held files.new ≡ F.held files.old }
 {
     let source = read_source(alloc, files, file)?;
-    let report = prepare(alloc, &source, entry, words)?;
+    let report = prepare_list(alloc, &source, entry, words)?;
     if let Err(refusal) = write_report(out, &report) {
         return Err(refusal);
     }
     Ok(Status(report.status))
+}
+
+/// Writes what the run of the function `entry` of the source in `file` does on the input of a map text.
+pub fn tell_run<F: Files, K: Sink>(
+    alloc: Global,
+    bounds: &Bounds,
+    map: &str,
+    file: &str,
+    entry: &str,
+    files: &mut F,
+    out: &mut K,
+) -> Result<Status, Refusal>
+    ensures ends { Ends (record {
+      held = F.held files.old;
+      files_old = F.faults files.old;
+      files_new = F.faults files.new;
+      out_old = K.written out.old;
+      out_new = K.written out.new;
+      faults_old = K.faults out.old;
+      faults_new = K.faults out.new;
+    }) (record { file = file.now; entry = entry.now; work = trace bounds.now map.now }) result }
+    ensures held { F.held files.new ≡ F.held files.old }
+{
+    let source = read_source(alloc, files, file)?;
+    let traced = prepare_trace(alloc, &source, entry, map, bounds)?;
+    let status = match write_trace(alloc, &traced.checked, bounds, &traced.trace, out) {
+        Ok(status) => status,
+        Err(refusal) => return Err(refusal),
+    };
+    Ok(status)
 }

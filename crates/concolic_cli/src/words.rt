@@ -1,63 +1,274 @@
 //! The words of a command line, and the command that they give.
 
-ghost use Rattle.std.specs.Prelude.{◌≡◌, ℕ, ◌^◌, ◌<◌, ◌≤◌, List, [], ◌∷◌, IsTrue, IfOk, IfErr, IfSome, IfNone};
-ghost use Rattle.std.specs.Fmt.{decimal};
-ghost use Rattle.concolic_cli.specs.Plain.{IsPlain};
-ghost use Rattle.cc_model.specs.Words.{texts, IsNumber, default_limits, Accepted, BadWord};
+ghost use Rattle.std.specs.Prelude.{◌≡◌, ℕ, ◌^◌, ◌<◌, ◌≤◌, ◌≤ℤ◌, ℤ, pos, List, [], ◌∷◌, IsTrue, IfOk, IfErr, IfSome, IfNone, codes, Some, Ok, Err, take, drop, length, ◌+◌};
+ghost use Rattle.std.specs.Fmt.{signed_decimal};
+ghost use Rattle.concolic_cli.specs.Words.{texts, IsNumber, Accepted, BadWord, range_of, behind, IsGiven, min_option, max_option, AreBounds, run_options, trace_options};
+ghost use Rattle.concolic_cli.specs.Options.{seen, IsTable, Fits, IsBadAt};
+ghost use Rattle.cc_base.specs.Limits.{Limits};
 ghost use Rattle.cc_model.specs.declared.commands.Command.{Command};
 
 use cc_model::base::Bounds;
-use cc_model::{Command, RunWords, Strategy};
+use cc_model::{Command, RunWords, Strategy, TraceWords};
+use itoa::Buffer;
 
-/// How many runs a session makes at most.
-const MAX_RUNS: u32 = 1_000_000;
-
-/// How many events a run has at most.
-const MAX_DEPTH: u32 = 1024;
-
-/// How many input objects a run may access, where nothing is said of it.
-const DEFAULT_OBJECTS: u8 = 8;
-
-/// How many steps a run may take, where nothing is said of it.
-const DEFAULT_STEPS: u32 = 100_000;
-
-/// The work that a solve may take, where nothing is said of it.
-const DEFAULT_BUDGET: u64 = 20_000;
-
-/// Whether the word has no plus in front and no zero before other bytes; every number's decimal text is so.
-fn is_plain(word: &str) -> bool
-    ensures plain { IsTrue result → IsPlain word.now }
-    ensures numbers { (n : ℕ) → n < 2 ^ 32 → word.now ≡ decimal n → IsTrue result }
-{
-    match word.as_bytes() {
-        [] | [b'+', ..] | [b'0', _, ..] => false,
-        _ => true,
-    }
+/// The least and the greatest number that an option takes, and its number where it is not given.
+#[derive(Clone, Copy)]
+struct Range {
+    least: i32,
+    greatest: i32,
+    default: i32,
 }
 
 /// The number from `low` to `high` whose decimal text `word` is; None exactly where there is none.
-fn number_of(word: &str, low: u32, high: u32) -> Option<u32>
-    ensures some { IfSome result (λ n. IsNumber word.now low high n) }
-    ensures only { (n : ℕ) → IsNumber word.now low high n → result ≡ Some n }
+fn number_of(word: &str, low: i32, high: i32) -> Option<i32>
+    ensures some { IfSome result (λ z. IsNumber word.now low high z) }
+    ensures only { (z : ℤ) → IsNumber word.now low high z → result ≡ Some z }
+    ensures none { IfNone result ((z : ℤ) → IsNumber word.now low high z → ⊥) }
 {
-    if !is_plain(word) {
+    let number = word.parse::<i32>().ok()?;
+    if number < low {
         return None;
     }
-    let number = word.parse::<u32>().ok()?;
-    if low <= number && number <= high {
+    if high < number {
+        return None;
+    }
+    let mut buffer = Buffer::new();
+    if buffer.format(number) == word {
         Some(number)
     } else {
         None
     }
 }
 
-/// The words behind the first one, which may be any word; None where there is none.
-fn behind_any(words: &[String]) -> Option<&[String]>
-    ensures some { IfSome result (λ rest. (word : List ℕ) × (texts words.now ≡ word ∷ texts rest.now)) }
+/// The number of the range whose decimal text `word` is; None exactly where there is none.
+fn number_in(word: &str, range: Range) -> Option<i32>
+    ensures some { IfSome result (λ z. IsNumber word.now range.least range.greatest z) }
+    ensures none { IfNone result ((z : ℤ) → IsNumber word.now range.least range.greatest z → ⊥) }
+{
+    number_of(word, range.least, range.greatest)
+}
+
+/// The option of the name in the table; None where no option has it.
+fn range_of(options: &[(&str, Range)], name: &str) -> Option<Range>
+    ensures { result ≡ range_of (seen options.now) name.now }
+{
+    for (option, range) in options {
+        if name == *option {
+            return Some(*range);
+        }
+    }
+    None
+}
+
+/// A word, and those behind it.
+#[derive(Clone, Copy)]
+struct WordAndRest<'a> {
+    word: &'a str,
+    rest: &'a [String],
+}
+
+/// The first word and the others; None where there is none.
+fn first_of(words: &[String]) -> Option<WordAndRest<'_>>
+    ensures some { IfSome result (λ r. texts words.now ≡ r.word.now ∷ texts r.rest.now) }
     ensures none { IfNone result (texts words.now ≡ []) }
 {
-    let (_, rest) = words.split_first()?;
-    Some(rest)
+    let (word, rest) = words.split_first()?;
+    Some(WordAndRest {
+        word: word.as_str(),
+        rest,
+    })
+}
+
+/// The first word behind the name, in pairs of a name and another word; None where the name does not stand.
+fn value_behind<'a>(words: &'a [String], name: &str) -> Option<&'a str>
+    ensures some { IfSome result (λ v. (rest : List (List ℕ)) × (behind name.now (texts words.now) ≡ v.now ∷ rest)) }
+    ensures none { IfNone result (behind name.now (texts words.now) ≡ []) }
+{
+    let first = first_of(words)?;
+    let second = first_of(first.rest)?;
+    if first.word == name {
+        return Some(second.word);
+    }
+    value_behind(second.rest, name)
+}
+
+/// The number of the option of the name, among options that a form takes.
+fn number_given(words: &[String], name: &str, range: Range) -> i32
+    ensures { (z : ℤ) → IsGiven (texts words.now) (name.now, range) z → result ≡ z }
+{
+    let Some(value) = value_behind(words, name) else {
+        return range.default;
+    };
+    number_of(value, range.least, range.greatest).unwrap_or(range.default)
+}
+
+/// The least number of an input, if `-min` says nothing else.
+const MIN: Range = Range {
+    least: i32::MIN,
+    greatest: i32::MAX,
+    default: i32::MIN,
+};
+
+/// The greatest number of an input, if `-max` says nothing else.
+const MAX: Range = Range {
+    least: i32::MIN,
+    greatest: i32::MAX,
+    default: i32::MAX,
+};
+
+/// Whether the least number that the options give is at most the greatest.
+fn is_ordered(words: &[String]) -> bool
+    ensures yes { IsTrue result → (lo hi : ℤ) → IsGiven (texts words.now) min_option lo → IsGiven (texts words.now) max_option hi → lo ≤ℤ hi }
+    ensures no { (lo hi : ℤ) → IsGiven (texts words.now) min_option lo → IsGiven (texts words.now) max_option hi → lo ≤ℤ hi → IsTrue result }
+{
+    number_given(words, "-min", MIN) <= number_given(words, "-max", MAX)
+}
+
+/// The first words, `n` of them.
+fn first_words(words: &[String], n: usize) -> &[String]
+    requires { n ≤ length words.now }
+    ensures { texts result.now ≡ texts (take n words.now) }
+{
+    &words[..n]
+}
+
+/// The words behind the first `n`.
+fn later_words(words: &[String], n: usize) -> &[String]
+    requires { n ≤ length words.now }
+    ensures { texts result.now ≡ texts (drop n words.now) }
+{
+    &words[n..]
+}
+
+/// Whether the name does not stand yet, in pairs of a name and another word.
+fn is_new(words: &[String], name: &str) -> bool
+    ensures yes { IsTrue result → behind name.now (texts words.now) ≡ [] }
+    ensures no { behind name.now (texts words.now) ≡ [] → IsTrue result }
+{
+    match value_behind(words, name) {
+        Some(_value) => false,
+        None => true,
+    }
+}
+
+/// The place, from 0, of the first bad word of the options, where those before `at` are no bad words; None where none is bad.
+fn bad_option(options: &[(&str, Range)], words: &[String], at: usize) -> Option<usize>
+    requires { at ≤ length words.now }
+    ensures some { IfSome result (λ n. IsTable (seen options.now) → Fits (seen options.now) (texts (take at words.now))
+        → IsBadAt (seen options.now) (texts words.now) n) }
+    ensures none { IfNone result (IsTable (seen options.now) → Fits (seen options.now) (texts (take at words.now))
+        → Fits (seen options.now) (texts words.now)) }
+{
+    let name = first_of(later_words(words, at))?;
+    let Some(range) = range_of(options, name.word) else {
+        return Some(at);
+    };
+    if !is_new(first_words(words, at), name.word) {
+        return Some(at);
+    }
+    let Some(value) = first_of(name.rest) else {
+        return Some(at + 1);
+    };
+    let Some(_number) = number_in(value.word, range) else {
+        return Some(at + 1);
+    };
+    if !is_ordered(first_words(words, at + 2)) {
+        return Some(at + 1);
+    }
+    bad_option(options, words, at + 2)
+}
+
+/// How many runs a session makes at most.
+const MAX_RUNS: i32 = 1_000_000;
+
+/// How many events a run has at most.
+const MAX_DEPTH: i32 = 1024;
+
+/// How many input objects a run may access.
+const OBJECTS: Range = Range {
+    least: 1,
+    greatest: 25,
+    default: 8,
+};
+
+/// How many steps a run may take.
+const STEPS: Range = Range {
+    least: 1,
+    greatest: 1_000_000,
+    default: 100_000,
+};
+
+/// How many events a traced run may have.
+const DEPTH: Range = Range {
+    least: 1,
+    greatest: MAX_DEPTH,
+    default: MAX_DEPTH,
+};
+
+/// The work that a solve may take.
+const SOLVER: Range = Range {
+    least: 1,
+    greatest: 100_000_000,
+    default: 20_000,
+};
+
+/// The options of `run`.
+const RUN_OPTIONS: [(&str, Range); 5] = [
+    ("-min", MIN),
+    ("-max", MAX),
+    ("-objects", OBJECTS),
+    ("-steps", STEPS),
+    ("-solver", SOLVER),
+];
+
+/// The options of `trace`.
+const TRACE_OPTIONS: [(&str, Range); 5] = [
+    ("-min", MIN),
+    ("-max", MAX),
+    ("-objects", OBJECTS),
+    ("-steps", STEPS),
+    ("-depth", DEPTH),
+];
+
+/// The place of the first bad word of the options of `run`; None where none is bad.
+fn bad_run_option(words: &[String]) -> Option<usize>
+    ensures some { IfSome result (λ n. IsBadAt run_options (texts words.now) n) }
+    ensures small { IfSome result (λ n. n ≤ 10) }
+    ensures none { IfNone result (Fits run_options (texts words.now)) }
+{
+    bad_option(&RUN_OPTIONS, words, 0)
+}
+
+/// The place of the first bad word of the options of `trace`; None where none is bad.
+fn bad_trace_option(words: &[String]) -> Option<usize>
+    ensures some { IfSome result (λ n. IsBadAt trace_options (texts words.now) n) }
+    ensures small { IfSome result (λ n. n ≤ 10) }
+    ensures none { IfNone result (Fits trace_options (texts words.now)) }
+{
+    bad_option(&TRACE_OPTIONS, words, 0)
+}
+
+/// The number of an option that takes no negative ones, among options that a form takes.
+fn natural_given(words: &[String], name: &str, range: Range) -> u32
+    requires { (n : ℕ) × IsGiven (texts words.now) (name.now, range) (pos n) }
+    ensures { IsGiven (texts words.now) (name.now, range) (pos result) }
+{
+    number_given(words, name, range) as u32
+}
+
+/// The bounds that the options give, with the depth.
+fn bounds_with(words: &[String], depth: u32) -> Bounds
+    requires given { (bounds : Limits) × AreBounds (texts words.now) bounds }
+    requires low { 1 ≤ depth }
+    requires high { depth ≤ 1024 }
+    ensures bounds { AreBounds (texts words.now) result }
+    ensures depth { result.depth ≡ depth }
+{
+    let objects = natural_given(words, "-objects", OBJECTS) as u8;
+    let steps = natural_given(words, "-steps", STEPS);
+    let lo = number_given(words, "-min", MIN);
+    let hi = number_given(words, "-max", MAX);
+    Bounds::new(lo, hi, depth, objects, steps).unwrap()
 }
 
 /// The words behind the first one; None where that is not `keyword`.
@@ -80,22 +291,109 @@ struct NumberAndRest<'a> {
     rest: &'a [String],
 }
 
-/// The number from `low` to `high` that the first word is, and the words behind it; None where it is no such number.
-fn behind_number(words: &[String], low: u32, high: u32) -> Option<NumberAndRest<'_>>
-    ensures some { IfSome result (λ r. (low ≤ r.number) × (r.number ≤ high)
-        × (texts words.now ≡ decimal r.number ∷ texts r.rest.now)) }
-    ensures none { IfNone result ((n : ℕ) (rest : List (List ℕ)) → low ≤ n → n ≤ high
-        → texts words.now ≡ decimal n ∷ rest → ⊥) }
+/// The number from 1 to `high` that the first word is, and the words behind it; None where it is no such number.
+fn behind_number(words: &[String], high: i32) -> Option<NumberAndRest<'_>>
+    ensures some { IfSome result (λ r. (word : List ℕ) × (texts words.now ≡ word ∷ texts r.rest.now) × IsNumber word (pos 1) high (pos r.number)) }
+    ensures none { IfNone result ((word : List ℕ) (rest : List (List ℕ)) (n : ℕ) → texts words.now ≡ word ∷ rest
+        → IsNumber word (pos 1) high (pos n) → ⊥) }
 {
-    let (word, rest) = words.split_first()?;
-    let number = number_of(word.as_str(), low, high)?;
-    Some(NumberAndRest { number, rest })
+    let Some(first) = first_of(words) else {
+        return None;
+    };
+    let Some(number) = number_of(first.word, 1, high) else {
+        return None;
+    };
+    Some(NumberAndRest {
+        number: number as u32,
+        rest: first.rest,
+    })
+}
+
+/// The command of the words behind `run`.
+fn read_run(words: &[String]) -> Result<Command, u32>
+    ensures accepted { IfOk result (λ c. Accepted (codes "run" ∷ texts words.now) c) }
+    ensures bad { IfErr result (λ n. BadWord (codes "run" ∷ texts words.now) n) }
+{
+    let Some(file) = first_of(words) else {
+        return Err(2);
+    };
+    let Some(entry) = first_of(file.rest) else {
+        return Err(3);
+    };
+    let Some(runs) = behind_number(entry.rest, MAX_RUNS) else {
+        return Err(4);
+    };
+    let Some(depth_on) = behind_keyword(runs.rest, "-dfs") else {
+        return Err(5);
+    };
+    let Some(depth) = behind_number(depth_on, MAX_DEPTH) else {
+        return Err(6);
+    };
+    let options = depth.rest;
+    if let Some(bad) = bad_run_option(options) {
+        return Err(bad as u32 + 7);
+    }
+    Ok(Command::Run(RunWords {
+        file: 2,
+        entry: 3,
+        runs: runs.number,
+        strategy: Strategy::Dfs,
+        bounds: bounds_with(options, depth.number),
+        budget: natural_given(options, "-solver", SOLVER) as u64,
+        seed: 0,
+        after: None,
+    }))
+}
+
+/// The command of the words behind `trace`.
+fn read_trace(words: &[String]) -> Result<Command, u32>
+    ensures accepted { IfOk result (λ c. Accepted (codes "trace" ∷ texts words.now) c) }
+    ensures bad { IfErr result (λ n. BadWord (codes "trace" ∷ texts words.now) n) }
+{
+    let Some(file) = first_of(words) else {
+        return Err(2);
+    };
+    let Some(entry) = first_of(file.rest) else {
+        return Err(3);
+    };
+    let Some(map) = first_of(entry.rest) else {
+        return Err(4);
+    };
+    let options = map.rest;
+    if let Some(bad) = bad_trace_option(options) {
+        return Err(bad as u32 + 5);
+    }
+    let depth = natural_given(options, "-depth", DEPTH);
+    Ok(Command::Trace(TraceWords {
+        file: 2,
+        entry: 3,
+        map: 4,
+        bounds: bounds_with(options, depth),
+    }))
+}
+
+/// The command, by the first word.
+fn read(words: &[String]) -> Result<Command, u32>
+    ensures accepted { IfOk result (λ c. Accepted (texts words.now) c) }
+    ensures bad { IfErr result (λ n. BadWord (texts words.now) n) }
+{
+    if let Some(rest) = behind_keyword(words, "run") {
+        return read_run(rest);
+    }
+    let Some(rest) = behind_keyword(words, "trace") else {
+        return Err(1);
+    };
+    read_trace(rest)
 }
 
 /// The command that the words of a command line give, the program's name left out.
 ///
-/// The form is `run FILE ENTRY N -dfs D`: FILE and ENTRY are any words, N is from 1 to 1,000,000, and D from 1 to 1,024.
-/// A number is decimal, without a sign and without leading zeros.
+/// The forms are `run FILE ENTRY N -dfs D` and `trace FILE ENTRY MAP`, with options behind them. FILE, ENTRY and MAP are
+/// any words, N is from 1 to 1,000,000, and D from 1 to 1,024. The options stand in any order, each at most once and each
+/// with a number behind it: `-min` and `-max` any of 32 bits, the first at most the second, where they are not given
+/// the least and the greatest; `-objects` 1 to 25, else 8; `-steps` 1 to 1,000,000, else 100,000; for `run` also
+/// `-solver` 1 to 100,000,000, else 20,000, and for `trace` `-depth` 1 to 1,024, else 1,024.
+/// A number is decimal, without a plus, without leading zeros, and 0 has no minus.
 ///
 /// An error is the number of the bad word, from 1: the least n such that the first n words begin no accepted list, or
 /// the number of words plus 1 where all of them begin one.
@@ -105,46 +403,7 @@ pub fn read_words(words: &[String]) -> Result<Command, u32>
     ensures bad { IfErr result (λ n. BadWord (texts words.now) n) }
     ensures bad_exact { (n : ℕ) → BadWord (texts words.now) n → result ≡ Err n }
 {
-    let Some(file_on) = behind_keyword(words, "run") else {
-        return Err(1);
-    };
-    let Some(entry_on) = behind_any(file_on) else {
-        return Err(2);
-    };
-    let Some(runs_on) = behind_any(entry_on) else {
-        return Err(3);
-    };
-    let Some(runs) = behind_number(runs_on, 1, MAX_RUNS) else {
-        return Err(4);
-    };
-    let Some(depth_on) = behind_keyword(runs.rest, "-dfs") else {
-        return Err(5);
-    };
-    let Some(depth) = behind_number(depth_on, 1, MAX_DEPTH) else {
-        return Err(6);
-    };
-    if !depth.rest.is_empty() {
-        return Err(7);
-    }
-    Ok(Command::Run(RunWords {
-        file: 2,
-        entry: 3,
-        runs: runs.number,
-        strategy: Strategy::Dfs,
-        bounds: default_bounds(depth.number),
-        budget: DEFAULT_BUDGET,
-        seed: 0,
-        after: None,
-    }))
-}
-
-/// The bounds of a session whose runs have at most `depth` events, where nothing else is said of them.
-fn default_bounds(depth: u32) -> Bounds
-    requires low { 1 ≤ depth }
-    requires high { depth ≤ 1024 }
-    ensures { result ≡ default_limits depth }
-{
-    Bounds::new(i32::MIN, i32::MAX, depth, DEFAULT_OBJECTS, DEFAULT_STEPS).unwrap()
+    read(words)
 }
 
 /// A list of words is accepted as at most one command.
@@ -152,64 +411,3 @@ pub fn one_command()
     ensures { (words : List (List ℕ)) (first second : Command)
         → Accepted words first → Accepted words second → first ≡ second }
 {}
-
-#[cfg(test)]
-mod tests {
-    use super::*;
-    use std::alloc::{AllocError, Global};
-    use std::test::Fail;
-
-    /// What the words of the text, with spaces between them, are read as.
-    fn read(alloc: Global, text: &str) -> Result<Result<Command, u32>, AllocError> {
-        let mut words = Vec::new(alloc);
-        for word in text.split_whitespace() {
-            words.push(String::from_str(alloc, word)?)?;
-        }
-        Ok(read_words(&words))
-    }
-
-    #[test]
-    fn takes_the_form(rt: HostRuntime) -> Result<(), Fail> {
-        let command = read(rt.alloc(), "run t.c f 10 -dfs 1")?;
-        let Ok(Command::Run(run)) = command else {
-            return Err(Fail::from("refused"));
-        };
-        assert_eq!(rt; (run.file, run.entry, run.runs), (2, 3, 10));
-        assert_eq!(rt;
-            (run.bounds.lo(), run.bounds.hi()),
-            (-2147483648, 2147483647)
-        );
-        assert_eq!(rt;
-            (run.bounds.depth(), run.bounds.objects(), run.bounds.steps()),
-            (1, 8, 100_000)
-        );
-        assert_eq!(rt;
-            (run.strategy, run.budget, run.seed, run.after),
-            (Strategy::Dfs, 20_000, 0, None)
-        );
-        Ok(())
-    }
-
-    #[test]
-    fn names_the_bad_word(rt: HostRuntime) -> Result<(), Fail> {
-        for (text, number) in [
-            ("", 1),
-            ("run", 2),
-            ("run t.c", 3),
-            ("run t.c f", 4),
-            ("run t.c f 10", 5),
-            ("run t.c f 10 -dfs", 6),
-            ("run t.c f 0 -dfs 1", 4),
-            ("run t.c f 010 -dfs 1", 4),
-            ("run t.c f +10 -dfs 1", 4),
-            ("run t.c f 1000001 -dfs 1", 4),
-            ("run t.c f 10 -bfs 1", 5),
-            ("run t.c f 10 -dfs 1025", 6),
-            ("run t.c f 10 -dfs 5 -min", 7),
-            ("walk", 1),
-        ] {
-            assert_eq!(rt; read(rt.alloc(), text)?.err(), Some(number), "{text}");
-        }
-        Ok(())
-    }
-}

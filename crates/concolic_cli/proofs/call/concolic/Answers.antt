@@ -4,43 +4,64 @@ use Rattle.concolic_cli.proofs.Promises as promise
 use Rattle.concolic_cli.proofs.call.concolic.Goals as goal
 
 pub returns-clause-headline : goal.returns-clause-headline
-returns-clause-headline g c = promise.headline _ _ (ending _ _ c.answer.ensures.answered)
+returns-clause-headline g c = λ words. promise.headline _ _ c.one_command.ensures (ending _ _ c.answer.ensures.answered) words
+
+pub returns-clause-listed : goal.returns-clause-listed
+returns-clause-listed g c = λ words. promise.listed _ _ c.one_command.ensures (ending _ _ c.answer.ensures.answered) words
+
+pub returns-clause-traced : goal.returns-clause-traced
+returns-clause-traced g c = λ words. promise.traced _ _ c.one_command.ensures (ending _ _ c.answer.ensures.answered) words
 
 pub returns-clause-quiet : goal.returns-clause-quiet
-returns-clause-quiet g c = promise.quiet _ _ (ending _ _ c.answer.ensures.answered)
+returns-clause-quiet g c = promise.quiet _ _ c.one_command.ensures (ending _ _ c.answer.ensures.answered)
 
 pub returns-clause-bad_words : goal.returns-clause-bad_words
-returns-clause-bad_words g c = c.answer.ensures.bad_words
+returns-clause-bad_words g c = promise.bad_words _ _ c.one_command.ensures (ending _ _ c.answer.ensures.answered)
 
 pub returns-clause-bad_word : goal.returns-clause-bad_word
-returns-clause-bad_word g c = promise.bad_word _ _ (ending _ _ c.answer.ensures.answered)
+returns-clause-bad_word g c = promise.bad_word _ _ c.one_command.ensures (ending _ _ c.answer.ensures.answered)
 
 pub returns-clause-source_refused : goal.returns-clause-source_refused
-returns-clause-source_refused g c = promise.source_refused _ _ (ending _ _ c.answer.ensures.answered)
+returns-clause-source_refused g c = promise.source_refused _ _ c.one_command.ensures (ending _ _ c.answer.ensures.answered)
 
 pub returns-clause-file_refused : goal.returns-clause-file_refused
-returns-clause-file_refused g c = promise.file_refused _ _ (ending _ _ c.answer.ensures.answered)
+returns-clause-file_refused g c = promise.file_refused _ _ c.one_command.ensures (ending _ _ c.answer.ensures.answered)
 
 pub returns-clause-output_failed : goal.returns-clause-output_failed
-returns-clause-output_failed g c = promise.output_failed _ _ (ending _ _ c.answer.ensures.answered)
+returns-clause-output_failed g c = promise.output_failed _ _ c.one_command.ensures (ending _ _ c.answer.ensures.answered)
 
 pub returns-clause-no_memory : goal.returns-clause-no_memory
-returns-clause-no_memory g c = promise.no_memory _ _ (ending _ _ c.answer.ensures.answered)
+returns-clause-no_memory g c = promise.no_memory _ _ c.one_command.ensures (ending _ _ c.answer.ensures.answered)
 
 pub returns-clause-stands : goal.returns-clause-stands
-returns-clause-stands g c = promise.stands _ _ (ending _ _ c.answer.ensures.answered)
+returns-clause-stands g c = promise.stands _ _ c.one_command.ensures (ending _ _ c.answer.ensures.answered)
 
 pub returns-clause-silent : goal.returns-clause-silent
-returns-clause-silent g c = promise.silent _ _ (ending _ _ c.answer.ensures.answered)
+returns-clause-silent g c = promise.silent _ _ c.one_command.ensures (ending _ _ c.answer.ensures.answered)
+
+pub returns-clause-statuses : goal.returns-clause-statuses
+returns-clause-statuses g c = promise.statuses _ _ c.one_command.ensures (ending _ _ c.answer.ensures.answered)
+
+pub returns-clause-run_alone : goal.returns-clause-run_alone
+returns-clause-run_alone g c = promise.run_alone _ _ c.one_command.ensures (ending _ _ c.answer.ensures.answered)
 
 pub returns-clause-complete : goal.returns-clause-complete
-returns-clause-complete g c = λ run bytes p i. promise.complete _ _ (ending _ _ c.answer.ensures.answered) c.one_program.ensures run bytes i p
+returns-clause-complete g c = λ run bytes a i s. promise.complete _ _ c.one_command.ensures (ending _ _ c.answer.ensures.answered) c.one_program.ensures run bytes a i s
+
+pub returns-clause-complete_trace : goal.returns-clause-complete_trace
+returns-clause-complete_trace g c = λ trace bytes h a i m s. promise.complete_trace _ _ c.one_command.ensures (ending _ _ c.answer.ensures.answered) c.one_program.ensures trace bytes h a i m s
 
 pub returns-clause-refused_source : goal.returns-clause-refused_source
-returns-clause-refused_source g c = λ run bytes text i. promise.refused_source _ _ (ending _ _ c.answer.ensures.answered) c.one_program.ensures run bytes i text
+returns-clause-refused_source g c = λ task bytes text a i. promise.refused_source _ _ c.one_command.ensures (ending _ _ c.answer.ensures.answered) c.one_program.ensures task bytes text a i
+
+pub returns-clause-refused_map : goal.returns-clause-refused_map
+returns-clause-refused_map g c = λ trace bytes f a i s. promise.refused_map _ _ c.one_command.ensures (ending _ _ c.answer.ensures.answered) trace bytes f a i s
+
+pub returns-clause-not_yet : goal.returns-clause-not_yet
+returns-clause-not_yet g c = λ run bytes a i s. promise.not_yet _ _ c.one_command.ensures (ending _ _ c.answer.ensures.answered) run bytes a i s
 
 pub returns-clause-missing_file : goal.returns-clause-missing_file
-returns-clause-missing_file g c = λ run h a told. promise.missing_file _ _ (ending _ _ c.answer.ensures.answered) run a h told
+returns-clause-missing_file g c = λ task h a told. promise.missing_file _ _ c.one_command.ensures (ending _ _ c.answer.ensures.answered) task a h told
 
 pub returns-clause-too_long_file : goal.returns-clause-too_long_file
-returns-clause-too_long_file g c = λ run h b a told. promise.too_long_file _ _ (ending _ _ c.answer.ensures.answered) run a h told b
+returns-clause-too_long_file g c = λ task h b a told. promise.too_long_file _ _ c.one_command.ensures (ending _ _ c.answer.ensures.answered) task a h told b

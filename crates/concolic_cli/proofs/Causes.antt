@@ -1,0 +1,106 @@
+-- The causes of refusals of a source, of its program, and of the output.
+use Rattle.std.proofs.Common.{◌≡◌, ℕ, ◌⊎◌, inl, inr, List, Option, Result, Ok, Err, refl, sym, subst, codes}
+use Rattle.cc_base.specs.declared.inputs.Input.{Input}
+use Rattle.cc_base.specs.Limits.{Limits}
+use Rattle.cc_model.specs.declared.tokens.Token.{Token}
+use Rattle.cc_model.specs.declared.checked.Checked.{Checked}
+use Rattle.cc_model.specs.declared.typing.Wrong as typing
+use Rattle.cc_model.specs.declared.typing.Wrong.TheVariants as kind
+use Rattle.cc_model.specs.Core.{Program}
+use Rattle.cc_model.specs.CheckedProgram.{core_of}
+use Rattle.cc_model.specs.Lexical.{line_at}
+use Rattle.cc_model.specs.Runs.{IsInput}
+use Rattle.cc_model.specs.Source.{IsProgram}
+use Rattle.cc_outside.specs.Told.{WritesPart}
+use Rattle.input_map.specs.Maps.{IsMap}
+use Rattle.concolic_cli.specs.declared.refusal.Wrong.{Wrong}
+use Rattle.concolic_cli.specs.declared.refusal.Wrong.TheVariants as wrong
+use Rattle.concolic_cli.specs.declared.refusal.Refusal.{Refusal}
+use Rattle.concolic_cli.specs.declared.refusal.Refusal.TheVariants as refused
+use Rattle.concolic_cli.specs.Listings.{AsksNothing}
+use Rattle.concolic_cli.specs.Programs.{ReadsAs, IsLexical, IsFaulty, IsWrong, IsNoProgram}
+use Rattle.concolic_cli.specs.Refusals.{what_text}
+use Rattle.concolic_cli.specs.Session.{MapCause, SourceCause, WriteCause, Seen, WroteFirst, part, Cause}
+use Rattle.concolic_cli.specs.Sources.{offset_of, source_text, wrong_text, Refuses, lexical, syntax, too_deep, fault, no_entry}
+use Rattle.concolic_cli.specs.Tasks.{Task, Work, list, trace}
+
+-- a bad byte, number, comment or directive
+lexical_cause : (bytes entry : List ℕ) (line : ℕ) (what : List ℕ) → IsLexical bytes line what → Refuses bytes entry (source_text line what)
+lexical_cause bytes entry line what h =
+    subst (λ l. Refuses bytes entry (source_text l what)) (sym h.2) (subst (λ w. Refuses bytes entry (source_text (line_at bytes (offset_of h.0)) w)) (sym h.3) (lexical h.0 h.1))
+
+-- a name, a declaration, a type or a size
+faulty_cause : (bytes entry : List ℕ) (line : ℕ) (w : typing.Wrong) → IsFaulty bytes line w → Refuses bytes entry (source_text line (wrong_text w))
+faulty_cause bytes entry line w h = subst (λ l. Refuses bytes entry (source_text l (wrong_text w))) (sym h.place) (fault h.tokens h.tree (record { what = w; token = h.token }) h.lexed h.read h.first)
+
+pub wrong_cause : (bytes entry : List ℕ) (line : ℕ) (w : Wrong) → IsWrong bytes line w → Refuses bytes entry (source_text line (what_text w))
+wrong_cause bytes entry line wrong.BadByte h = lexical_cause bytes entry line _ h
+wrong_cause bytes entry line wrong.BadNumber h = lexical_cause bytes entry line _ h
+wrong_cause bytes entry line wrong.OpenComment h = lexical_cause bytes entry line _ h
+wrong_cause bytes entry line wrong.BadDirective h = lexical_cause bytes entry line _ h
+wrong_cause bytes entry line wrong.Syntax h = subst (λ l. Refuses bytes entry (source_text l (codes "syntax"))) (sym h.3) (syntax h.0 h.1 h.2 h.4)
+wrong_cause bytes entry line wrong.UnknownName h = faulty_cause bytes entry line kind.Unknown h
+wrong_cause bytes entry line wrong.DeclaredTwice h = faulty_cause bytes entry line kind.Twice h
+wrong_cause bytes entry line wrong.Mismatch h = faulty_cause bytes entry line kind.Mismatch h
+wrong_cause bytes entry line wrong.TooLarge h = faulty_cause bytes entry line kind.TooLarge h
+wrong_cause bytes entry line wrong.TooDeep h = subst (λ l. Refuses bytes entry (source_text l (codes "too deep"))) (sym h.3) (too_deep h.0 h.1 h.2 h.4)
+
+-- a source that is no program with such a function is refused for that cause
+pub no_program_cause : (bytes entry : List ℕ) (work : Work) (e : Refusal) → IsNoProgram bytes entry e → SourceCause bytes entry work e
+no_program_cause bytes entry work (refused.Source line w) h = wrong_cause bytes entry line w h
+no_program_cause bytes entry work refused.NotYet h = absurd h
+no_program_cause bytes entry work refused.NoMemory h = tt
+no_program_cause bytes entry work (refused.BadWord n) h = h
+no_program_cause bytes entry work refused.Missing h = h
+no_program_cause bytes entry work refused.TooLong h = h
+no_program_cause bytes entry work refused.FileFailed h = h
+no_program_cause bytes entry work refused.NoEntry h = no_entry h.0 h.1 (h.2).lexed (h.2).read (h.2).well_typed h.3
+no_program_cause bytes entry work (refused.Map f) h = absurd h
+no_program_cause bytes entry work refused.OutputFailed h = h
+
+-- ---- an accepted program
+
+abbrev pub program_of : (bytes entry : List ℕ) (tokens : List Token) (c : Checked) → ReadsAs bytes entry tokens c → IsProgram bytes entry (core_of c)
+program_of bytes entry tokens c reads = record { tokens = tokens; checked = c; lexed = reads.lexed; read = reads.read; right = reads.right; core = refl }
+
+-- its run on the base input asks something
+pub not_yet_cause : (bytes entry : List ℕ) (tokens : List Token) (c : Checked) (b : Limits) (runs budget : ℕ) → ReadsAs bytes entry tokens c → (AsksNothing (core_of c) b → ⊥) →
+    SourceCause bytes entry (list b runs budget) refused.NotYet
+not_yet_cause bytes entry tokens c b runs budget reads asks = record { program = core_of c; source = program_of bytes entry tokens c reads; asks = asks }
+
+abbrev pub read_as : Result Input Refusal → Result Input Refusal
+read_as r = r
+
+-- its map text is refused
+pub map_cause : (bytes entry : List ℕ) (tokens : List Token) (c : Checked) (b : Limits) (map : List ℕ) (e : Refusal) → ReadsAs bytes entry tokens c → MapCause (core_of c) b map e →
+    ((h : Input) → IsMap map h → IsInput (core_of c) b h → (read_as (Err e) ≡ Ok h) ⊎ (read_as (Err e) ≡ Err refused.NoMemory)) → SourceCause bytes entry (trace b map) e
+map_cause bytes entry tokens c b map (refused.Map f) reads h whole =
+    record { program = core_of c; source = program_of bytes entry tokens c reads; refused = h; none = λ i m w. neither i (whole i m w) }
+  where
+    neither : (i : Input) → (read_as (Err (refused.Map f)) ≡ Ok i) ⊎ (read_as (Err (refused.Map f)) ≡ Err refused.NoMemory) → ⊥
+    neither i (inl e) = cc e
+    neither i (inr e) = cc e
+map_cause bytes entry tokens c b map refused.NoMemory reads h whole = tt
+map_cause bytes entry tokens c b map (refused.Source line w) reads h whole = absurd h
+map_cause bytes entry tokens c b map refused.NotYet reads h whole = absurd h
+map_cause bytes entry tokens c b map (refused.BadWord n) reads h whole = absurd h
+map_cause bytes entry tokens c b map refused.Missing reads h whole = absurd h
+map_cause bytes entry tokens c b map refused.TooLong reads h whole = absurd h
+map_cause bytes entry tokens c b map refused.FileFailed reads h whole = absurd h
+map_cause bytes entry tokens c b map refused.NoEntry reads h whole = absurd h
+map_cause bytes entry tokens c b map refused.OutputFailed reads h whole = absurd h
+
+-- ---- the output
+
+-- a write failed, and a first part of the text stands
+pub write_failed : (seen : Seen) (task : Task) (e : Refusal) → WroteFirst seen.held seen.out_old seen.out_new task → WriteCause seen.faults_old seen.faults_new e → Cause seen task e
+write_failed seen task refused.OutputFailed w h = (h, w)
+write_failed seen task refused.NoMemory w h = part w
+write_failed seen task (refused.BadWord n) w h = absurd h
+write_failed seen task refused.Missing w h = absurd h
+write_failed seen task refused.TooLong w h = absurd h
+write_failed seen task refused.FileFailed w h = absurd h
+write_failed seen task (refused.Source line wrong) w h = absurd h
+write_failed seen task refused.NotYet w h = absurd h
+write_failed seen task refused.NoEntry w h = absurd h
+write_failed seen task (refused.Map f) w h = absurd h
