@@ -6,6 +6,11 @@ use std::alloc::Global;
 use std::process::Abort;
 use std::test::Fail;
 
+/// Whether a source was run, or isn't run so far.
+fn is_accepted(status: u8, error: &[u8]) -> bool {
+    status <= 1 || status == 10 || error == b"run not yet\n".as_slice()
+}
+
 /// Runs a session on the source, whose tested function is `f`, and compares the line that it says.
 fn says(rt: &(impl Abort + AllocGlobal), source: &[u8], answer: &str) -> Result<(), Fail> {
     let alloc = rt.alloc();
@@ -18,6 +23,10 @@ fn says(rt: &(impl Abort + AllocGlobal), source: &[u8], answer: &str) -> Result<
     let mut out = MemSink::new(alloc);
     let mut err = MemSink::new(alloc);
     let status = concolic(alloc, &words, &mut files, &mut out, &mut err);
+    if answer == "accepted" {
+        assert_eq!(rt; is_accepted(status.0, err.bytes()), true);
+        return Ok(());
+    }
     let mut line = String::from_str(alloc, answer)?;
     line.push_str("\n")?;
     assert_eq!(rt; err.bytes(), line.as_bytes());
@@ -37,7 +46,7 @@ fn names_of_functions(rt: HostRuntime) -> Result<(), Fail> {
         ),
         (
             "int f(void) { return g(); }\nint g(void) { return 1; }",
-            "run not yet",
+            "accepted",
         ),
         (
             "int x = 1;\nint f(void) { return x(); }",
@@ -53,7 +62,7 @@ fn names_of_functions(rt: HostRuntime) -> Result<(), Fail> {
         ),
         (
             "int f(void);\nint f(void);\nint f(void) { return 2 * 3; }",
-            "run not yet",
+            "accepted",
         ),
         (
             "int f(void) { return 0; }\nint f(void) { return 1; }",
@@ -84,7 +93,7 @@ fn names_of_variables(rt: HostRuntime) -> Result<(), Fail> {
             "int f(void) { return y; }\nint y = 1;",
             "source 1: unknown name",
         ),
-        ("int f(void) { int x = x + 1; return x; }", "run not yet"),
+        ("int f(void) { int x = x + 1; return x; }", "accepted"),
         (
             "int f(void) { { int y = 1; }\n return y; }",
             "source 2: unknown name",
@@ -95,7 +104,7 @@ fn names_of_variables(rt: HostRuntime) -> Result<(), Fail> {
         ),
         (
             "int f(void) { for (int i = 0; i < 3; i++) { int i = 1; } return 0; }",
-            "run not yet",
+            "accepted",
         ),
         (
             "int f(void) {\n int x;\n int x;\n return 0; }",
@@ -105,7 +114,7 @@ fn names_of_variables(rt: HostRuntime) -> Result<(), Fail> {
             "int f(int x) {\n int x = 1; return x; }",
             "source 2: declared twice",
         ),
-        ("int f(int x) { { int x = 1; } return x; }", "run not yet"),
+        ("int f(int x) { { int x = 1; } return x; }", "accepted"),
         (
             "int f(int x, int x) { return 0; }",
             "source 1: declared twice",
@@ -131,7 +140,7 @@ fn tags_fields_and_typedefs(rt: HostRuntime) -> Result<(), Fail> {
         ),
         (
             "int f(struct s *p) { return p->a; }\nstruct s { int a; };",
-            "run not yet",
+            "accepted",
         ),
         (
             "int f(void) {\n struct s v;\n return 0; }\nstruct s { int a; };",
@@ -155,7 +164,7 @@ fn tags_fields_and_typedefs(rt: HostRuntime) -> Result<(), Fail> {
         ),
         (
             "typedef struct X t;\nint f(t *p) { return p->a; }\nstruct X { int a; };",
-            "run not yet",
+            "accepted",
         ),
         (
             "typedef struct X t;\nint f(void) {\n t v;\n return 0; }\nstruct X { int a; };",
@@ -176,7 +185,7 @@ fn tags_fields_and_typedefs(rt: HostRuntime) -> Result<(), Fail> {
         ),
         (
             "typedef struct s { int a; } t;\nstruct u { int t; };\nint f(void) { return 0; }",
-            "run not yet",
+            "accepted",
         ),
     ];
     for (source, answer) in rows {
@@ -192,26 +201,26 @@ fn operators(rt: HostRuntime) -> Result<(), Fail> {
         ("int f(int *p) {\n return p + 1; }", "source 2: type"),
         ("int f(int *p) {\n return -p; }", "source 2: type"),
         ("int f(int *p) { return p < p; }", "source 1: type"),
-        ("int f(int *p) { return p == 0; }", "run not yet"),
+        ("int f(int *p) { return p == 0; }", "accepted"),
         ("int f(int *p) { return p == 1; }", "source 1: type"),
         ("int f(void) { return NULL == 0; }", "source 1: type"),
         ("int f(void) { return NULL == NULL; }", "source 1: type"),
-        ("int f(int *p) { return p != NULL && !p; }", "run not yet"),
+        ("int f(int *p) { return p != NULL && !p; }", "accepted"),
         ("int f(int x) { return *x; }", "source 1: type"),
-        ("int f(int *p) { return *p; }", "run not yet"),
+        ("int f(int *p) { return *p; }", "accepted"),
         (
             "struct s { int a; };\nint f(struct s *p) {\n return p.a; }",
             "source 3: type",
         ),
         (
             "struct s { int a; };\nint f(void) { struct s v; v.a = 1; return v.a; }",
-            "run not yet",
+            "accepted",
         ),
         ("int f(int x) { return x->a; }", "source 1: type"),
         ("int f(int *p) { return p[0]; }", "source 1: type"),
         (
             "int f(void) { int a[3]; a[0] = 1; return a[0]; }",
-            "run not yet",
+            "accepted",
         ),
     ];
     for (source, answer) in rows {
@@ -228,14 +237,11 @@ fn places_and_assignments(rt: HostRuntime) -> Result<(), Fail> {
             "int f(void) { int a[3]; int *p = &a; return *p; }",
             "source 1: type",
         ),
-        (
-            "int f(void) { int x; int *p = &x; return *p; }",
-            "run not yet",
-        ),
+        ("int f(void) { int x; int *p = &x; return *p; }", "accepted"),
         ("int f(int *p) {\n p = 1;\n return 0; }", "source 2: type"),
         (
             "int f(int *p) { p = 0; p = (0); p = NULL; return 0; }",
-            "run not yet",
+            "accepted",
         ),
         (
             "int f(void) {\n int *p = -0;\n return 0; }",
@@ -243,11 +249,11 @@ fn places_and_assignments(rt: HostRuntime) -> Result<(), Fail> {
         ),
         ("int f(int *p) {\n p += 1;\n return 0; }", "source 2: type"),
         ("int f(int *p) {\n p++;\n return 0; }", "source 2: type"),
-        ("int f(int *p) { (*p)++; return *p; }", "run not yet"),
+        ("int f(int *p) { (*p)++; return *p; }", "accepted"),
         ("int f(int *p) { *p++; return 0; }", "source 1: syntax"),
         (
             "int f(void) { int *p = (int *) malloc(sizeof(int)); return *p; }",
-            "run not yet",
+            "accepted",
         ),
         (
             "int f(void) {\n int *p = (int *)\n malloc(sizeof(int *));\n return 0; }",
@@ -274,7 +280,7 @@ fn calls_and_statements(rt: HostRuntime) -> Result<(), Fail> {
         ),
         (
             "int g(int *a) { return 1; }\nint f(void) { return g(0) + g(NULL); }",
-            "run not yet",
+            "accepted",
         ),
         (
             "void g(void) { }\nint f(void) {\n return g(); }",
@@ -282,26 +288,26 @@ fn calls_and_statements(rt: HostRuntime) -> Result<(), Fail> {
         ),
         (
             "void g(void) { }\nint f(void) { g(); return 0; }",
-            "run not yet",
+            "accepted",
         ),
         ("int f(void) {\n return; }", "source 2: type"),
         ("void f(void) { return 1; }", "source 1: type"),
-        ("void f(void) { return; }", "run not yet"),
+        ("void f(void) { return; }", "accepted"),
         ("int *f(void) { return 1; }", "source 1: type"),
-        ("int *f(void) { return 0; }", "run not yet"),
+        ("int *f(void) { return 0; }", "accepted"),
         (
             "int f(void) {\n if (NULL) return 1;\n return 0; }",
             "source 2: type",
         ),
-        ("int f(int *p) { while (p) { } return 0; }", "run not yet"),
+        ("int f(int *p) { while (p) { } return 0; }", "accepted"),
         ("int f(void) {\n break;\n return 0; }", "source 2: type"),
         (
             "int f(void) { while (1) { break; } do { continue; } while (0); return 0; }",
-            "run not yet",
+            "accepted",
         ),
         (
             "int f(int x) { if (x) if (x) return 1; else return 2; return 0; }",
-            "run not yet",
+            "accepted",
         ),
     ];
     for (source, answer) in rows {
@@ -352,20 +358,20 @@ fn structs_and_order(rt: HostRuntime) -> Result<(), Fail> {
 fn sizes(rt: HostRuntime) -> Result<(), Fail> {
     let rows = [
         ("int f(void) { int a[0]; return 0; }", "source 1: too large"),
-        ("int f(void) { int a[1]; return 0; }", "run not yet"),
-        ("int f(void) { int a[256]; return 0; }", "run not yet"),
+        ("int f(void) { int a[1]; return 0; }", "accepted"),
+        ("int f(void) { int a[256]; return 0; }", "accepted"),
         (
             "int f(void) {\n int a[257]; return 0; }",
             "source 2: too large",
         ),
-        ("int f(void) { int a[16][16]; return 0; }", "run not yet"),
+        ("int f(void) { int a[16][16]; return 0; }", "accepted"),
         (
             "int f(void) {\n int\n a[16][17]; return 0; }",
             "source 3: too large",
         ),
         (
             "struct s { int a[256]; };\nint f(void) { return 0; }",
-            "run not yet",
+            "accepted",
         ),
         (
             "struct\n s {\n int a[256]; int b; };\nint f(void) { return 0; }",
@@ -408,7 +414,7 @@ fn nested(alloc: Global, pairs: usize) -> Result<Vec<u8>, Fail> {
 #[test]
 fn levels(rt: HostRuntime) -> Result<(), Fail> {
     let alloc = rt.alloc();
-    says(&rt, &nested(alloc, 199)?, "run not yet")?;
+    says(&rt, &nested(alloc, 199)?, "accepted")?;
     says(&rt, &nested(alloc, 200)?, "source 2: too deep")
 }
 
@@ -447,6 +453,6 @@ fn sums(alloc: Global, count: usize) -> Result<Vec<u8>, Fail> {
 #[test]
 fn sites(rt: HostRuntime) -> Result<(), Fail> {
     let alloc = rt.alloc();
-    says(&rt, &sums(alloc, 4096)?, "run not yet")?;
+    says(&rt, &sums(alloc, 4096)?, "accepted")?;
     says(&rt, &sums(alloc, 4097)?, "source 4098: too large")
 }

@@ -5,3 +5,7 @@
 mod faults;
 #[cfg(test)]
 mod rows;
+#[cfg(test)]
+mod traces;
+#[cfg(test)]
+mod words;

@@ -255,14 +255,20 @@ fn refusals(rt: HostRuntime) -> Result<(), Fail> {
         ),
         refused("", "run u.c f 10 -dfs 1", "file u.c: missing\n", 4),
         refused(
-            "int f(int x) { return x; }",
+            "int f(int x) { if (x) return 1; return 0; }",
             "run t.c f 10 -dfs 1",
             "run not yet\n",
             3,
         ),
         refused(
-            "int f(int x) { return 0; }",
+            "int f(void) { int x; CREST_int(x); return x + 1; }",
             "run t.c f 10 -dfs 1",
+            "run not yet\n",
+            3,
+        ),
+        refused(
+            "int f(int x) { int y = x * x; return 0; }",
+            "run t.c f 10 -dfs 2",
             "run not yet\n",
             3,
         ),
@@ -281,45 +287,227 @@ fn refusals(rt: HostRuntime) -> Result<(), Fail> {
         ),
         refused("int f(void);", "run t.c f 10 -dfs 1", "no entry f\n", 3),
         refused("int x;", "run t.c f 10 -dfs 1", "no entry f\n", 3),
+        refused("", "run t.c f 10 -dfs 5 -min 5 -max 4", "bad word 10\n", 2),
+        refused("", "run t.c f 10 -dfs 5 -max 4 -min 5", "bad word 10\n", 2),
+        refused("", "run t.c f 10 -dfs 5 -min", "bad word 8\n", 2),
+        refused("", "run t.c f 10 -dfs 5 -depth 4", "bad word 7\n", 2),
         refused(
-            "int f(void) { return 0; } int g(void) { return 1; }",
-            "run t.c f 10 -dfs 1",
-            "run not yet\n",
+            "",
+            "run t.c f 10 -dfs 5 -steps 4 -steps 4",
+            "bad word 9\n",
+            2,
+        ),
+        refused("", "run t.c f 10 -dfs 5 -objects 26", "bad word 8\n", 2),
+        refused("", "run t.c f 10 -dfs 5 -solver 0", "bad word 8\n", 2),
+        refused("", "run t.c f 10 -dfs 5 -min -0", "bad word 8\n", 2),
+        refused("", "trace t.c f", "bad word 4\n", 2),
+        refused("", "trace t.c f 0 -depth 1025", "bad word 6\n", 2),
+        refused("", "trace t.c f 0 -solver 1", "bad word 5\n", 2),
+        refused("", "walk t.c f", "bad word 1\n", 2),
+        refused(
+            "int f(void) { return 0; }",
+            "trace t.c g ~",
+            "no entry g\n",
             3,
         ),
+        refused("", "trace u.c f ~", "file u.c: missing\n", 4),
         refused(
-            "int *f(void) { return 0; }",
-            "run t.c f 10 -dfs 1",
-            "run not yet\n",
-            3,
-        ),
-        refused(
-            "void f(void) { }",
-            "run t.c f 10 -dfs 1",
-            "run not yet\n",
-            3,
-        ),
-        refused(
-            "int f(void) { ; return 0; }",
-            "run t.c f 10 -dfs 1",
-            "run not yet\n",
-            3,
-        ),
-        refused(
-            "int f(void) { return 2 * 3; }",
-            "run t.c f 10 -dfs 1",
-            "run not yet\n",
-            3,
-        ),
-        refused(
-            "int f(void) { return -1; }",
-            "run t.c f 10 -dfs 1",
-            "run not yet\n",
+            "int f(int x) {\n return y; }",
+            "trace t.c f x",
+            "source 2: unknown name\n",
             3,
         ),
     ];
     for row in &rows {
         check(&rt, row)?;
+    }
+    Ok(())
+}
+
+/// Two list cells, one aliasing the other or not.
+const TWO_CELLS: &str = "struct cell { int v; struct cell *next; };
+int f(struct cell *p, struct cell *q) {
+  p->v = 1;
+  q->v = 2;
+  if (p->v == 1) return 1;
+  return 0;
+}
+";
+
+#[test]
+fn maps(rt: HostRuntime) -> Result<(), Fail> {
+    let rows = [
+        ("trace t.c f 4,0", "map: not canonical at 1\n"),
+        ("trace t.c f 3,3", "map: short\n"),
+        ("trace t.c f 0,0,7", "map: too long at 3\n"),
+        ("trace t.c f 0,x", "map: malformed at 3\n"),
+        ("trace t.c f 3,3,9,0 -max 8", "map: out of bounds at 3\n"),
+        (
+            "trace t.c f 0,0/1,9,2 -max 8",
+            "map: stream out of bounds at 2\n",
+        ),
+        ("trace t.c f 3,6,0,0,0,0", "map: not canonical at 2\n"),
+        ("trace t.c f 3,5,0,7,0,0", "map: short\n"),
+        ("trace t.c f -1,0", "map: not canonical at 1\n"),
+        ("trace t.c f 0,0/", "map: malformed at 5\n"),
+        ("trace t.c f 0,00", "map: malformed at 4\n"),
+        ("trace t.c f ~", "map: short\n"),
+        ("run t.c f 10 -dfs 5", "run not yet\n"),
+    ];
+    for (words, error) in rows {
+        check(&rt, &refused(TWO_CELLS, words, error, 3))?;
+    }
+    Ok(())
+}
+
+/// A list cell, a helper, a link that may lead back to its own cell.
+const REALISTIC: &str = "#include <stdlib.h>
+typedef struct cell { int v; struct cell *next; } cell;
+int f(int v) { return 2 * v + 1; }
+int testme(cell *p, int x) {
+  if (x > 0)
+    if (p != NULL)
+      if (f(x) == p->v)
+        if (p->next == p) abort();
+  return 0; /* no fault */
+}
+";
+
+#[test]
+fn first_parts_of_a_map(rt: HostRuntime) -> Result<(), Fail> {
+    let alloc = rt.alloc();
+    let mut files = MemFiles::new(alloc);
+    files.put("t.c", REALISTIC.as_bytes())?;
+    let rows = [
+        ("", "map: malformed at 1\n", 3),
+        ("3", "map: short\n", 3),
+        ("3,", "map: malformed at 3\n", 3),
+        ("3,1", "map: short\n", 3),
+        ("3,1,", "map: malformed at 5\n", 3),
+        ("3,1,3", "map: short\n", 3),
+        ("3,1,3,", "map: malformed at 7\n", 3),
+        ("3,1,3,3", "", 1),
+    ];
+    for (map, error, status) in rows {
+        let mut words = words_of(alloc, "trace t.c testme")?;
+        words.push(String::from_str(alloc, map)?)?;
+        let mut out = MemSink::new(alloc);
+        let mut err = MemSink::new(alloc);
+        let ended = concolic(alloc, &words, &mut files, &mut out, &mut err);
+        assert_eq!(rt; err.bytes(), error.as_bytes(), "the map {map}");
+        assert_eq!(rt; ended.0, status, "the map {map}");
+    }
+    Ok(())
+}
+
+/// The report's last line where the one run ends as `steps`.
+const ENDED_BY_STEPS: &str = "incomplete terms=0 spent=0 steps=1 strays=0 unrun=0\n";
+
+#[test]
+fn runs_without_input(rt: HostRuntime) -> Result<(), Fail> {
+    let rows = [
+        (
+            "int f(void) { return 0; } int g(void) { return 1; }",
+            "run t.c f 10 -dfs 1",
+            DEPTH_1,
+            "test ~ return ~\n",
+            COMPLETE,
+            0,
+        ),
+        (
+            "int *f(void) { return 0; }",
+            "run t.c f 10 -dfs 1",
+            DEPTH_1,
+            "test ~ return ~\n",
+            COMPLETE,
+            0,
+        ),
+        (
+            "void f(void) { }",
+            "run t.c f 10 -dfs 1",
+            DEPTH_1,
+            "test ~ return ~\n",
+            COMPLETE,
+            0,
+        ),
+        (
+            "int f(void) { return 2 * 3; }",
+            "run t.c f 10 -dfs 1",
+            DEPTH_1,
+            "test . return ~\n",
+            COMPLETE,
+            0,
+        ),
+        (
+            "int f(void) { int x = 1; if (x > 0) return 2; return 3; }",
+            "run t.c f 10 -dfs 9",
+            DEPTH_9,
+            "test T return ~\n",
+            COMPLETE,
+            0,
+        ),
+        (
+            "int f(void) { int x = 0; return 1 / x; }",
+            "run t.c f 10 -dfs 9",
+            DEPTH_9,
+            "test ! divide@1 ~\n",
+            COMPLETE,
+            1,
+        ),
+        (
+            "int f(int x, int *p) { return 0; }",
+            "run t.c f 10 -dfs 1",
+            DEPTH_1,
+            "test ~ return 0,0\n",
+            COMPLETE,
+            0,
+        ),
+        (
+            "int f(void) { return 0; }",
+            "run t.c f 10 -dfs 1 -steps 2",
+            "bounds min=-2147483648 max=2147483647 depth=1 objects=8 steps=2\n",
+            "test ~ return ~\n",
+            COMPLETE,
+            0,
+        ),
+        (
+            "int f(void) { return 0; }",
+            "run t.c f 10 -dfs 1 -steps 1",
+            "bounds min=-2147483648 max=2147483647 depth=1 objects=8 steps=1\n",
+            "test ~ steps ~\n",
+            ENDED_BY_STEPS,
+            10,
+        ),
+        (
+            "int g(void) { return g(); }",
+            "run t.c g 10 -dfs 9",
+            DEPTH_9,
+            "test ~ steps ~\n",
+            ENDED_BY_STEPS,
+            10,
+        ),
+        (
+            "int f(int x) { return 0; }",
+            "run t.c f 10 -dfs 9 -max -3 -solver 7 -objects 25 -min -9",
+            "bounds min=-9 max=-3 depth=9 objects=25 steps=100000\n",
+            "test ~ return -3\n",
+            COMPLETE,
+            0,
+        ),
+    ];
+    for (source, words, first, test, last, status) in rows {
+        check(
+            &rt,
+            &Row {
+                source,
+                words,
+                first,
+                test,
+                last,
+                error: "",
+                status,
+            },
+        )?;
     }
     Ok(())
 }
