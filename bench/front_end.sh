@@ -1,6 +1,6 @@
 #!/usr/bin/env bash
 # Times the front end on sources of 1,048,576 bytes at most: each is read and checked whole, and the program answers
-# `run not yet` or lists the one path of its tested function. Takes the program as ./tevgoral has built it, and prints a
+# `run not yet`, lists the one path of its tested function, or, for `fields` and `many_fields`, says what is too large. Takes the program as ./tevgoral has built it, and prints a
 # table of seconds and of the largest resident memory. No part of the gate. Wants GNU time as /usr/bin/time.
 set -euo pipefail
 top=$(cd "$(dirname "$0")/.." && pwd)
@@ -15,6 +15,13 @@ make_source() {
     BEGIN {
         n = 0; i = 0
         if (kind == "locals") add("int f(void) {\n")
+        if (kind == "typedefs") add("struct s { int v; };\n")
+        if (kind == "many_fields") add("struct s {\n")
+        if (kind == "fields") {
+            add("struct s {\n")
+            for (k = 0; k < 256; k++) add(sprintf("int member_%03d;\n", k))
+            add("};\nint f(struct s *p) {\n")
+        }
         if (kind == "lines") {
             add("int f(int x) {\n")
             for (k = 0; k < 4096; k++) add("x = x + 1;\n")
@@ -32,9 +39,14 @@ make_source() {
             if (kind == "globals") add(sprintf("int g%d;\n", i))
             if (kind == "locals") add(sprintf("int v%d;\n", i))
             if (kind == "structs") add(sprintf("struct s%d { int v; struct s%d *next; };\n", i, i))
+            if (kind == "typedefs") add(sprintf("typedef struct s name_of_the_struct_number_%06d;\n", i))
+            if (kind == "prototypes") add("int function_that_is_declared_often(int x, int *y);\n")
+            if (kind == "fields") add(sprintf("p->member_%03d = 1;\n", i % 256))
+            if (kind == "many_fields") add(sprintf("int m%d;\n", i))
             i++
         }
-        if (kind == "locals") add("return 0; }\n")
+        if (kind == "many_fields") add("};\n")
+        if (kind == "locals" || kind == "fields") add("return 0; }\n")
         else if (kind != "lines") add("int f(int x) { return x; }\n")
     }'
 }
@@ -43,7 +55,7 @@ lscpu | grep -E '^(Model name|CPU\(s\)):' | sed 's/:  */: /'
 free -g | awk '/^Mem/ { print "Memory: " $2 " GB" }'
 "$top/tevgoral" run "$top/examples/sum.c" f 1 -dfs 1 >/dev/null || true
 printf '%-12s %10s %8s %10s %8s  %s\n' source bytes lines seconds MB answer
-for kind in lines functions globals locals structs; do
+for kind in lines functions globals locals structs typedefs prototypes fields many_fields; do
     for size in $((limit / 8)) $((limit / 4)) $limit; do
         # five thousand functions and 4,096 sites take most of the largest size
         if [ $kind = lines ] && [ "$size" -lt $limit ]; then continue; fi
