@@ -32,7 +32,7 @@ unfolding
     Rattle.cc_model.specs.Traced.depends Rattle.cc_model.specs.Traced.or_wide Rattle.cc_model.specs.Traced.same_side
     Rattle.cc_model.specs.Traced.two_choices Rattle.cc_model.specs.Traced.same_choices Rattle.cc_model.specs.Traced.sides_asked
     Rattle.cc_model.specs.Traced.first_if Rattle.cc_model.specs.Traced.side_at Rattle.cc_model.specs.Traced.side_without
-    Rattle.cc_model.specs.Traced.pointers_asked Rattle.cc_model.specs.Traced.is_first Rattle.cc_model.specs.Traced.letters
+    Rattle.cc_model.specs.Traced.places_asked Rattle.cc_model.specs.Traced.pointers_asked Rattle.cc_model.specs.Traced.is_first Rattle.cc_model.specs.Traced.letters
     Rattle.cc_model.specs.Traced.differs Rattle.cc_model.specs.Traced.access_choices Rattle.cc_model.specs.Traced.access_asked
     Rattle.cc_model.specs.Traced.first_of Rattle.cc_model.specs.Traced.reached_shadow Rattle.cc_model.specs.Traced.cell_ty
     Rattle.cc_model.specs.Traced.touched_shadows Rattle.cc_model.specs.Traced.shadow_at Rattle.cc_model.specs.Traced.set_touched

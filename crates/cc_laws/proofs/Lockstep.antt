@@ -1370,15 +1370,19 @@ module _ (layout : ℕ → List Cell) (params : List Cell) (globals : List Value
     beside w o p t x x' y y' r i q (no_side e j) = let z = j p x x' i in
         subst (λ z. Known_fact w (on.sides_asked o z (Some (asked.at p))) (decision_of (compared o y x)) (decision_of (compared o y' x'))) (sym e) (quiet_known w _ _ (pair_equal o y x y' x' (first_ptr o y x q.0) (first_ptr o y' x' q.1) (swap_ptr y x ∙ z.0 ∙ sym (swap_ptr y' x' ∙ z.1))))
 
+    if_known : (w : World) (b : Bool) (a : Asked) (o o' : Outcome) → Known_fact w a o o' → Known_fact w (if b then a else term kind.Wide) o o'
+    if_known w true a o o' h = h
+    if_known w false a o o' h = (tt, term_fact w kind.Wide o o')
+
     compare_known : (w : World) (o : Cmp) (s t : Shadow) (p p' q q' : Value) (x y : Data) → Fits w s p p' → Fits w t q q' → Lock w x y
         → Known_fact w (on.compare_asked f o (mk p s) (mk q t) x) (decision_of (compared o p q)) (decision_of (compared o p' q'))
-    unfolding on.compare_asked on.pointers_asked
+    unfolding on.compare_asked on.pointers_asked on.places_asked
     compare_known w o (form a) (form c) p p' q q' x y i j k = numbers_known w o a c p p' q q' i j
     compare_known w o (form a) (place m t) p p' q q' x y i j k = quiet_known w _ _ (number_first w o a p p' q q' i (place_ptr w m t q q' j))
     compare_known w o (form a) none p p' q q' x y i j k = quiet_known w _ _ (number_first w o a p p' q q' i (bare_ptr w q q' j))
     compare_known w o (place m t) (form c) p p' q q' x y i j k = quiet_known w _ _ (number_second w o c q q' p p' j (place_ptr w m t p p' i))
     compare_known w o none (form c) p p' q q' x y i j k = quiet_known w _ _ (number_second w o c q q' p p' j (bare_ptr w p p' i))
-    compare_known w o (place m t) (place n u) p p' q q' x y i j k = sides_known w o (asked.at m) (asked.at n) p p' q q' (side_place w m t p p' i) (side_place w n u q q' j)
+    compare_known w o (place m t) (place n u) p p' q q' x y i j k = if_known w (nat_eq t u) _ _ _ (sides_known w o (asked.at m) (asked.at n) p p' q q' (side_place w m t p p' i) (side_place w n u q q' j))
     compare_known w o (place m t) none p p' q q' x y i j k = against w o m t p p' q q' _ i (bare_ptr w q q' j) (without_of w t q q' x y j k)
     compare_known w o none (place n u) p p' q q' x y i j k = beside w o n u q q' p p' _ j (bare_ptr w p p' i) (without_of w u p p' x y i k)
     compare_known w o none none p p' q q' x y i j k =
@@ -1800,7 +1804,7 @@ module _ (layout : ℕ → List Cell) (params : List Cell) (globals : List Value
         if_shadows false s u e = refl
         if_shadows true s u e = absurd (cc e)
 
-    first_at : (m t r : ℕ) (l : List Touched) (c : Touched) → slice_get l r ≡ Some c → on.reached_shadow (Object r) (place m t) l ≡ place c.first t
+    first_at : (m t r : ℕ) (l : List Touched) (c : Touched) → slice_get l r ≡ Some c → on.reached_shadow (Object r) (place m t) l ≡ place c.first c.type
     unfolding on.reached_shadow on.first_of
     first_at m t r l c e = ap (λ o. on.first_of o (place m t)) e
 
@@ -1833,14 +1837,13 @@ module _ (layout : ℕ → List Cell) (params : List Cell) (globals : List Value
         let a = rank_in k.name (names w.keys) (has_name (λ z. z.name) w.keys k i) in
         let e = ap (base.rank k.name) l.touched_g in
         let below : base.rank k.name x.plain.touched < length x.shadows.touched = omega (arith, n, a, e) in
-        let ty = key_type w m t x y k i l h in
         let spot : SpotAt w (at (block k.name) 0) (at (block k.other) 0) = spot_block k 0 i refl refl in
-        reached_is w w m t k.name k.other x y (place k.first t) (place k.first t) x.shadows y.shadows (le_same w)
+        reached_is w w m t k.name k.other x y (place k.first k.type) (place k.first k.type) x.shadows y.shadows (le_same w)
         (old_shadows m t (base.rank k.name x.plain.touched) x.shadows below)
         (old_shadows m t (base.rank k.other y.plain.touched) y.shadows (subst (λ z. z < length y.shadows.touched) r (subst (λ z. base.rank k.name x.plain.touched < length z.touched) l.shadows below)))
-        (first_at m t (base.rank k.name x.plain.touched) x.shadows.touched c.0 c.1 ∙ ap (λ z. place z t) c.2)
-        (first_at m t (base.rank k.other y.plain.touched) y.shadows.touched c.0 (ap₂ (λ z q. slice_get z.touched q) (sym l.shadows) (sym r) ∙ c.1) ∙ ap (λ z. place z t) c.2)
-        (refl, subst (λ z. PlaceAt w k.first z (at (block k.name) 0) (at (block k.other) 0)) (sym ty) (l.firsts k i), spot)
+        (first_at m t (base.rank k.name x.plain.touched) x.shadows.touched c.0 c.1 ∙ ap₂ place c.2 c.3)
+        (first_at m t (base.rank k.other y.plain.touched) y.shadows.touched c.0 (ap₂ (λ z q. slice_get z.touched q) (sym l.shadows) (sym r) ∙ c.1) ∙ ap₂ place c.2 c.3)
+        (refl, l.firsts k i, spot)
         (keep w x y _ _ (touch_old k.name x.plain.touched (has_g w x y k i l)) (touch_old k.other y.plain.touched (has_h w x y k i l)) l)
 
     -- ---- a block that neither run touched before

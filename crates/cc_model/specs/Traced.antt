@@ -137,10 +137,14 @@ unfoldable pub side_without : ℕ → Value → List ℕ → List Touched → Op
 side_without t null touched l = Some nothing
 side_without t v touched l = side_at t (spot_of v touched) l
 
+-- two places: pointers to different types are compared by no checked program; there the run would go on without asking
+unfoldable pub places_asked : Cmp → ℕ → ℕ → ℕ → ℕ → Asked
+places_asked o p t q u = if nat_eq t u then sides_asked o (Some (at_place p)) (Some (at_place q)) else term kind.Wide
+
 -- two pointers: nothing is asked where neither has a place
 unfoldable pub pointers_asked : Cmp → Traced → Traced → List ℕ → List Touched → Asked
 pointers_asked o a b touched l = elim a.shadow [
-  | place p t ↦ sides_asked o (Some (at_place p)) (elim b.shadow [ place q u ↦ Some (at_place q) | _ ↦ side_without t b.plain touched l ])
+  | place p t ↦ elim b.shadow [ place q u ↦ places_asked o p t q u | _ ↦ sides_asked o (Some (at_place p)) (side_without t b.plain touched l) ]
   | _ ↦ elim b.shadow [ place q u ↦ sides_asked o (side_without u a.plain touched l) (Some (at_place q)) | _ ↦ asks_nothing ]
 ]
 
@@ -171,9 +175,9 @@ unfoldable pub access_asked : Shadow → List Touched → Asked
 access_asked (place p t) l = if is_first p l then asks_nothing else one_of (access_choices p t l)
 access_asked _ l = asks_nothing
 
--- a pointer to the reached block has the place by which that was first touched
+-- a pointer to the reached block has the place by which that was first touched, and the block's type
 unfoldable pub first_of : Option Touched → Shadow → Shadow
-first_of (Some b) (place p t) = place b.first t
+first_of (Some b) (place p t) = place b.first b.type
 first_of _ s = s
 
 unfoldable pub reached_shadow : Outcome → Shadow → List Touched → Shadow

@@ -11,3 +11,12 @@ pub mod Standings
 pub mod Answered
 pub mod ShortNumbers
 pub mod Streams
+pub mod Lists
+pub mod Shapes
+pub mod Laid
+pub mod Values
+pub mod Planned
+pub mod Built
+pub mod Indexed
+pub mod Filled
+pub mod Steps

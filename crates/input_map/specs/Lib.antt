@@ -4,3 +4,5 @@ pub mod CellFaults
 pub mod Params
 pub mod Commas
 pub mod Standing
+pub mod Builds
+pub mod Laying

@@ -1,7 +1,8 @@
-//! Inputs as they are written: map texts and the texts of tests, and the base input.
+//! Inputs as they are written: map texts and the texts of tests, the base input, and inputs that are built.
 #![tactic(auto)]
 
 mod base;
+mod building;
 mod checking;
 mod faults;
 mod maps;
@@ -10,10 +11,13 @@ mod reading;
 mod writing;
 
 pub use base::base_input;
+pub use building::{Assignment, build};
 pub use faults::MapFault;
 pub use maps::{an_input_has_a_map_text, read_map};
 pub use params::{layout, param_cells};
 pub use writing::{write_map, write_test};
 
+#[cfg(test)]
+mod build_tests;
 #[cfg(test)]
 mod tests;

@@ -21,9 +21,13 @@ use Rattle.sym_run.proofs.KeptLaws.{Within, Invariant}
 abbrev pub outs : List Choice → List Outcome
 outs cs = map (λ c. c.outcome) cs
 
--- at most 28 choices, ascending
+-- each outcome has a byte
+abbrev pub Bytes : List Choice → Type 0
+Bytes cs = (y : Outcome) → In y (outs cs) → HasByte y
+
+-- at most 28 choices, ascending, that have bytes
 abbrev pub Sorted : List Choice → Type 0
-Sorted cs = (length cs ≤ 28) × Ascend (outs cs)
+Sorted cs = (length cs ≤ 28) × Ascend (outs cs) × Bytes cs
 
 abbrev pub SortedAsked : Asked → Type 0
 SortedAsked asks_nothing = Unit {0}
@@ -32,7 +36,7 @@ SortedAsked (term k) = Unit {0}
 
 -- so are the alternatives of an event, and its own outcome is none of them
 abbrev pub IsFew : Event → Type 0
-IsFew e = (length (alternatives e) ≤ 28) × Ascend (outs (alternatives e)) × (In e.outcome (outs (alternatives e)) → ⊥)
+IsFew e = (length (alternatives e) ≤ 28) × Ascend (outs (alternatives e)) × (In e.outcome (outs (alternatives e)) → ⊥) × Bytes (alternatives e)
 
 pub record Offered (e : Event) : Type 0 where
   pub few : IsFew e
@@ -85,9 +89,9 @@ module _ (o : Outcome) where
 
 few_by : (o : Outcome) (q : Asked) (ps : List Placed) → SortedAsked q → IsFew (record { outcome = o; asked = q; places = ps })
 unfolding alternatives
-few_by o asks_nothing ps h = (omega arith, tt, λ i. i)
-few_by o (one_of cs) ps h = let s = without_short o cs in let n = h.0 in (omega (arith, s, n), without_sorted o cs h.1, without_own o cs)
-few_by o (term k) ps h = (omega arith, tt, λ i. i)
+few_by o asks_nothing ps h = (omega arith, tt, (λ i. i), (λ y i. absurd i))
+few_by o (one_of cs) ps h = let s = without_short o cs in let n = h.0 in (omega (arith, s, n), without_sorted o cs h.1, without_own o cs, (λ y i. h.2 y (without_in o cs y i)))
+few_by o (term k) ps h = (omega arith, tt, (λ i. i), (λ y i. absurd i))
 
 -- ---- what an event asks
 
@@ -95,9 +99,14 @@ below_one : (o p y : Outcome) → byte_of o < byte_of p → In y (p ∷ []) → 
 below_one o p y h (inl e) = subst (λ (z : Outcome). byte_of o < byte_of z) (sym e) h
 below_one o p y h (inr i) = absurd i
 
+byte_two : (o p y : Outcome) → HasByte o → HasByte p → In y (o ∷ p ∷ []) → HasByte y
+byte_two o p y h g (inl e) = subst (λ (z : Outcome). HasByte z) (sym e) h
+byte_two o p y h g (inr (inl e)) = subst (λ (z : Outcome). HasByte z) (sym e) g
+byte_two o p y h g (inr (inr i)) = absurd i
+
 two_sorted : (t e : Atom) → Sorted (on.two_choices t e)
 unfolding on.two_choices
-two_sorted t e = (omega arith, ((λ y i. below_one False True y (omega arith) i), ((λ y i. absurd i), tt)))
+two_sorted t e = (omega arith, ((λ y i. below_one False True y (omega arith) i), ((λ y i. absurd i), tt)), (λ y i. byte_two False True y tt tt i))
 
 below_two : (o p q y : Outcome) → byte_of o < byte_of p → byte_of o < byte_of q → In y (p ∷ q ∷ []) → byte_of o < byte_of y
 below_two o p q y h g (inl e) = subst (λ (z : Outcome). byte_of o < byte_of z) (sym e) h
@@ -119,8 +128,10 @@ sides_sorted o None b = tt
 sides_sorted o (Some a) None = tt
 
 pointers_sorted : (o : Cmp) (x : Value) (s : Shadow) (y : Value) (u : Shadow) (touched : List ℕ) (l : List Touched) → SortedAsked (on.pointers_asked o (record { plain = x; shadow = s }) (record { plain = y; shadow = u }) touched l)
-unfolding on.pointers_asked
-pointers_sorted o x (place p t) y u touched l = sides_sorted o _ _
+unfolding on.pointers_asked on.places_asked
+pointers_sorted o x (place p t) y (place q u) touched l = either_asked (nat_eq t u) (on.sides_asked o _ _) (term _) (sides_sorted o _ _) tt
+pointers_sorted o x (place p t) y (form g) touched l = sides_sorted o _ _
+pointers_sorted o x (place p t) y none touched l = sides_sorted o _ _
 pointers_sorted o x (form g) y (place q u) touched l = sides_sorted o _ _
 pointers_sorted o x none y (place q u) touched l = sides_sorted o _ _
 pointers_sorted o x (form g) y (form h) touched l = tt
@@ -183,6 +194,16 @@ byte_below y r n e h = subst (λ (z : Outcome). byte_of z < byte_of (Object n)) 
 null_below : (y : Outcome) (r : ℕ) → y ≡ Object r → byte_of Zero < byte_of y
 null_below y r e = subst (λ (z : Outcome). byte_of Zero < byte_of z) (sym e) (omega arith)
 
+object_byte : (y : Outcome) (r : ℕ) → y ≡ Object r → r ≤ 25 → HasByte y
+object_byte y r e h = subst (λ (z : Outcome). HasByte z) (sym e) h
+
+access_bytes : (p t : ℕ) (l : List Touched) → length l ≤ 25 → (last : Choice) → last.outcome ≡ Object (length l) → (y : Outcome) → (y ≡ Zero) ⊎ In y (outs (on.letters p t 0 l ++ last ∷ [])) → HasByte y
+access_bytes p t l short last is y (inl e) = subst (λ (z : Outcome). HasByte z) (sym e) tt
+access_bytes p t l short last is y (inr i) = elim (in_last (on.letters p t 0 l) last y i) [
+  | inl j ↦ (let k = letters_are p t 0 l y j in let h = k.3 in object_byte y k.0 k.1 (omega (arith, h, short)))
+  | inr e ↦ object_byte y (length l) (e ∙ is) short
+]
+
 access_sorted : (p t : ℕ) (l : List Touched) → length l ≤ 25 → Sorted (on.access_choices p t l)
 unfolding on.access_choices
 access_sorted p t l short =
@@ -194,6 +215,7 @@ access_sorted p t l short =
         (λ y i. elim (in_last (on.letters p t 0 l) last y i) [ inl j ↦ (let k = letters_are p t 0 l y j in null_below y k.0 k.1) | inr e ↦ null_below y (length l) e ]),
         ascend_last (on.letters p t 0 l) last (letters_ascend p t 0 l) (λ y i. let k = letters_are p t 0 l y i in let h = k.3 in byte_below y k.0 (length l) k.1 (omega (arith, h))),
       ),
+      (λ y i. access_bytes p t l short last refl y i),
     )
 
 access_asks : (s : Shadow) (l : List Touched) → length l ≤ 25 → SortedAsked (on.access_asked s l)
@@ -202,11 +224,15 @@ access_asks (place p t) l h = either_asked (on.is_first p l) asks_nothing (one_o
 access_asks (form g) l h = tt
 access_asks none l h = tt
 
+fit_byte_of : (y : Outcome) → In y (High ∷ Low ∷ Plain ∷ []) → HasByte y
+fit_byte_of y (inl e) = subst (λ (z : Outcome). HasByte z) (sym e) tt
+fit_byte_of y (inr i) = byte_two Low Plain y tt tt i
+
 module _ (f : Forms) where
   fit_sorted : (q : Formed) → SortedAsked (on.fit_asked f q)
   unfolding on.fit_asked on.fit_choices
   fit_sorted plain_number = tt
-  fit_sorted (formed g) = (omega arith, ((λ y i. below_two High Low Plain y (omega arith) (omega arith) i), ((λ y i. below_one Low Plain y (omega arith) i), ((λ y i. absurd i), tt))))
+  fit_sorted (formed g) = (omega arith, ((λ y i. below_two High Low Plain y (omega arith) (omega arith) i), ((λ y i. below_one Low Plain y (omega arith) i), ((λ y i. absurd i), tt))), (λ y i. fit_byte_of y i))
   fit_sorted (termed k) = tt
 
   difference_sorted : (o : Cmp) (g : Option Form) → SortedAsked (on.difference_asked f o g)

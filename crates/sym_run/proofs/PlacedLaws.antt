@@ -1,5 +1,6 @@
 -- The places of a run, and what its events name of them.
 use Rattle.std.proofs.Common.{◌≡◌, ◌<◌, ◌+◌, ◌⊎◌, inl, inr, ℕ, zero, suc, ℤ, pos, negsuc, Bool, true, false, ◌||◌, List, [], ◌∷◌, ◌++◌, length, length-append, append_assoc, append-nil, map, Option, Some, None, slice_get, slice_set, nat_eq, nat_lt, refl, sym, ap, subst, ◌∙◌, arith, if◌then◌else◌}
+use Rattle.std.proofs.lemmas.Bool.{eqb-true}
 use Rattle.std.proofs.lemmas.Option.{same_Some}
 use Rattle.cc_base.specs.declared.cells.CellTy.{CellTy}
 use Rattle.cc_base.specs.declared.cells.CellTy.TheVariants as cell
@@ -16,9 +17,10 @@ use Rattle.cc_model.specs.Domain.{Act, act_arith, act_divisor, act_negate, act_c
 use Rattle.cc_model.specs.FormOperations.{Forms, Laws, places_of_form}
 use Rattle.cc_model.specs.Plain as base
 use Rattle.cc_model.specs.Plain.{Value, null, num, at, made, block, or_none}
+use Rattle.cc_model.specs.declared.terms.TermKind.TheVariants as kind
 use Rattle.cc_model.specs.Traced as on
 use Rattle.cc_model.specs.Traced.{Traced, Data, Shadow, form, place, none, Spot, in_made, in_touched, nowhere, spot_of, Touched, Shadows, Choice, Event, Asked, asks_nothing, one_of, term, Formed, plain_number, formed, termed, traced, cell_ty}
-use Rattle.sym_run.specs.Placing.{IsNumberAt, IsPointerAt, FitsCell, ArePlaces, NamesForm, NamesSide, NamesAtom, NameAtoms}
+use Rattle.sym_run.specs.Placing.{IsNumberAt, IsPointerTo, IsPointerAt, FitsCell, ArePlaces, NamesForm, NamesSide, OfOneType, NamesAtom, NameAtoms}
 use Rattle.sym_run.proofs.KeptLaws.{OfAll, Each, Invariant}
 
 -- ---- more places
@@ -46,18 +48,24 @@ get_map f (y ∷ l) (suc n) x e = get_map f l n x e
 number_later : (l m : List Placed) (p : ℕ) → IsNumberAt l p → IsNumberAt (l ++ m) p
 number_later l m p h = (h.0, get_front l m p _ h.1)
 
-pointer_later : (l m : List Placed) (p : ℕ) → IsPointerAt l p → IsPointerAt (l ++ m) p
-pointer_later l m p h = (h.0, h.1, get_front l m p _ h.2)
+pointer_later : (l m : List Placed) (p t : ℕ) → IsPointerTo l p t → IsPointerTo (l ++ m) p t
+pointer_later l m p t h = (h.0, get_front l m p _ h.1)
+
+points_at : (l : List Placed) (p t : ℕ) → IsPointerTo l p t → IsPointerAt l p
+points_at l p t h = (h.0, record { 0 = t }, h.1)
+
+one_type : (l : List Placed) (p q t : ℕ) → IsPointerTo l p t → IsPointerTo l q t → OfOneType l (asked.at p) (asked.at q)
+one_type l p q t h g e f ep eq = ap (λ (x : Placed). x.holds) (same_Some e _ (sym ep ∙ h.1)) ∙ ap (λ (x : Placed). x.holds) (same_Some _ f (sym g.1 ∙ eq))
 
 -- what stands beside a value names places
 abbrev pub Good : List Placed → Shadow → Type 0
 Good l (form g) = NamesForm l g
-Good l (place p t) = IsPointerAt l p
+Good l (place p t) = IsPointerTo l p t
 Good l none = Unit {0}
 
 good_later : (l m : List Placed) (s : Shadow) → Good l s → Good (l ++ m) s
 good_later l m (form g) h = λ p i. number_later l m p (h p i)
-good_later l m (place p t) h = pointer_later l m p h
+good_later l m (place p t) h = pointer_later l m p t h
 good_later l m none h = tt
 
 abbrev pub AllGood : List Placed → List Shadow → Type 0
@@ -68,11 +76,11 @@ all_later l m [] h = tt
 all_later l m (s ∷ ss) h = (good_later l m s h.0, all_later l m ss h.1)
 
 abbrev pub GoodTouched : List Placed → Touched → Type 0
-GoodTouched l b = IsPointerAt l b.first × AllGood l b.shadows
+GoodTouched l b = IsPointerTo l b.first b.type × AllGood l b.shadows
 
 each_later : (l m : List Placed) (bs : List Touched) → Each (GoodTouched l) bs → Each (GoodTouched (l ++ m)) bs
 each_later l m [] h = tt
-each_later l m (b ∷ bs) h = ((pointer_later l m b.first (h.0).0, all_later l m b.shadows (h.0).1), each_later l m bs h.1)
+each_later l m (b ∷ bs) h = ((pointer_later l m b.first b.type (h.0).0, all_later l m b.shadows (h.0).1), each_later l m bs h.1)
 
 made_later : (l m : List Placed) (ss : List (List Shadow)) → Each (AllGood l) ss → Each (AllGood (l ++ m)) ss
 made_later l m [] h = tt
@@ -107,7 +115,7 @@ NameAsked l (term k) = Unit {0}
 module _ (params : List Cell) (layouts : ℕ → List Cell) where
   fits_later : (l m : List Placed) (q : Place) (h : CellTy) → FitsCell params layouts l q h → FitsCell params layouts (l ++ m) q h
   fits_later l m (arg i) h k = k
-  fits_later l m (field q c) h k = (pointer_later l m q k.0, k.1)
+  fits_later l m (field q c) h k = (k.0, pointer_later l m q k.0 k.1, k.2)
   fits_later l m (stream i) h k = k
 
   places_push : (l : List Placed) (p : Placed) → ArePlaces params layouts l → ParentBelow (length l) p.place → FitsCell params layouts l p.place p.holds → ArePlaces params layouts (l ++ p ∷ [])
@@ -124,8 +132,8 @@ module _ (params : List Cell) (layouts : ℕ → List Cell) where
     ];
   }
 
-  pointer_below : (l : List Placed) (p : ℕ) → IsPointerAt l p → p < length l
-  pointer_below l p h = get_below l p _ h.2
+  pointer_below : (l : List Placed) (p t : ℕ) → IsPointerTo l p t → p < length l
+  pointer_below l p t h = get_below l p _ h.1
     where
       get_below : (m : List Placed) (n : ℕ) (x : Placed) → slice_get m n ≡ Some x → n < length m
       get_below [] n x e = absurd (cc e)
@@ -191,7 +199,7 @@ module _ (params : List Cell) (layouts : ℕ → List Cell) where
           )
       good_cells c (ptr_cell t ∷ cs) l =
           let x : Placed = record { place = of c; holds = cell.Ptr (record { 0 = t }) } in (
-            (of c, record { 0 = t }, get_mid l (placed (suc c) cs) x),
+            (of c, get_mid l (placed (suc c) cs) x),
             subst (λ (n : ℕ). AllGood (l ++ x ∷ placed (suc c) cs) (on.cell_shadows f n cs)) (longer l x)
                 (subst (λ (m : List Placed). AllGood m (on.cell_shadows f (length (l ++ x ∷ [])) cs)) (append_assoc l (x ∷ []) (placed (suc c) cs)) (good_cells (suc c) cs (l ++ x ∷ []))),
           )
@@ -305,52 +313,71 @@ module _ (params : List Cell) (layouts : ℕ → List Cell) where
     numbers_named l o a b h g = either_asked l (on.depends a || on.depends b) (on.difference_asked f o (f.difference a b)) asks_nothing
         (difference_named l o (f.difference a b) (λ c e. names_either l a b c (laws.difference_places a b c e) h g)) tt
 
-    same_named : (l : List Placed) (o : Cmp) (a b : Side) → NamesSide l a → NamesSide l b → NameChoices l (on.same_choices o a b)
+    same_named : (l : List Placed) (o : Cmp) (a b : Side) → NamesAtom l (same a b) → NameChoices l (on.same_choices o a b)
     unfolding on.same_choices
-    same_named l tree.ne a b h g = two_named l (differ a b) (same a b) (h, g) (h, g)
-    same_named l _ a b h g = two_named l (same a b) (differ a b) (h, g) (h, g)
+    same_named l tree.ne a b h = two_named l (differ a b) (same a b) h h
+    same_named l _ a b h = two_named l (same a b) (differ a b) h h
 
-    abbrev IfSide : List Placed → Option Side → Type 0
-    IfSide l None = Unit {0}
-    IfSide l (Some a) = NamesSide l a
+    -- a side of a pointer to this type, or NULL
+    abbrev NamesTo : List Placed → ℕ → Side → Type 0
+    NamesTo l t nothing = Unit {0}
+    NamesTo l t (asked.at p) = IsPointerTo l p t
 
-    sides_named : (l : List Placed) (o : Cmp) (a b : Option Side) → IfSide l a → IfSide l b → NameAsked l (on.sides_asked o a b)
+    both_to : (l : List Placed) (t : ℕ) (a b : Side) → NamesTo l t a → NamesTo l t b → NamesAtom l (same a b)
+    both_to l t nothing nothing h g = (tt, tt, tt)
+    both_to l t (asked.at p) nothing h g = (points_at l p t h, tt, tt)
+    both_to l t nothing (asked.at q) h g = (tt, points_at l q t g, tt)
+    both_to l t (asked.at p) (asked.at q) h g = (points_at l p t h, points_at l q t g, one_type l p q t h g)
+
+    abbrev IfSide : List Placed → ℕ → Option Side → Type 0
+    IfSide l t None = Unit {0}
+    IfSide l t (Some a) = NamesTo l t a
+
+    sides_named : (l : List Placed) (t : ℕ) (o : Cmp) (a b : Option Side) → IfSide l t a → IfSide l t b → NameAsked l (on.sides_asked o a b)
     unfolding on.sides_asked
-    sides_named l o (Some a) (Some b) h g = either_asked l (on.same_side a b) asks_nothing (one_of (on.same_choices o a b)) tt (same_named l o a b h g)
-    sides_named l o None b h g = tt
-    sides_named l o (Some a) None h g = tt
+    sides_named l t o (Some a) (Some b) h g = either_asked l (on.same_side a b) asks_nothing (one_of (on.same_choices o a b)) tt (same_named l o a b (both_to l t a b h g))
+    sides_named l t o None b h g = tt
+    sides_named l t o (Some a) None h g = tt
 
-    if_side : (l : List Placed) (b : Bool) (a : Side) → NamesSide l a → IfSide l (if b then Some a else None)
-    if_side l true a h = h
-    if_side l false a h = tt
+    if_side : (l : List Placed) (t : ℕ) (b : Bool) (a : Side) → (b ≡ true → NamesTo l t a) → IfSide l t (if b then Some a else None)
+    if_side l t true a h = h refl
+    if_side l t false a h = tt
 
-    first_named : (l : List Placed) (t : ℕ) (bs : List Touched) (r : ℕ) → Each (GoodTouched l) bs → IfSide l (on.first_if t (slice_get bs r))
+    first_named : (l : List Placed) (t : ℕ) (bs : List Touched) (r : ℕ) → Each (GoodTouched l) bs → IfSide l t (on.first_if t (slice_get bs r))
     unfolding on.first_if
     first_named l t [] r h = tt
-    first_named l t (b ∷ bs) zero h = if_side l (nat_eq b.type t) (asked.at b.first) (h.0).0
+    first_named l t (b ∷ bs) zero h = if_side l t (nat_eq b.type t) (asked.at b.first) (λ e. subst (λ (u : ℕ). IsPointerTo l b.first u) (eqb-true b.type t e) (h.0).0)
     first_named l t (b ∷ bs) (suc r) h = first_named l t bs r h.1
 
-    side_at_named : (l : List Placed) (t : ℕ) (s : Spot) (bs : List Touched) → Each (GoodTouched l) bs → IfSide l (on.side_at t s bs)
+    side_at_named : (l : List Placed) (t : ℕ) (s : Spot) (bs : List Touched) → Each (GoodTouched l) bs → IfSide l t (on.side_at t s bs)
     unfolding on.side_at
     side_at_named l t (in_touched r zero) bs h = first_named l t bs r h
     side_at_named l t (in_touched r (suc c)) bs h = tt
     side_at_named l t (in_made n c) bs h = tt
     side_at_named l t nowhere bs h = tt
 
-    without_named : (l : List Placed) (t : ℕ) (v : Value) (touched : List ℕ) (bs : List Touched) → Each (GoodTouched l) bs → IfSide l (on.side_without t v touched bs)
+    without_named : (l : List Placed) (t : ℕ) (v : Value) (touched : List ℕ) (bs : List Touched) → Each (GoodTouched l) bs → IfSide l t (on.side_without t v touched bs)
     unfolding on.side_without
     without_named l t null touched bs h = tt
     without_named l t (num z) touched bs h = side_at_named l t _ bs h
     without_named l t (at o c) touched bs h = side_at_named l t _ bs h
 
+    places_named : (l : List Placed) (o : Cmp) (p t q u : ℕ) → IsPointerTo l p t → IsPointerTo l q u → NameAsked l (on.places_asked o p t q u)
+    unfolding on.places_asked
+    places_named l o p t q u h g = if_asked (nat_eq t u) refl
+      where
+        if_asked : (b : Bool) → nat_eq t u ≡ b → NameAsked l (if b then on.sides_asked o (Some (asked.at p)) (Some (asked.at q)) else term kind.Wide)
+        if_asked true e = sides_named l t o _ _ h (subst (λ (x : ℕ). IsPointerTo l q x) (sym (eqb-true t u e)) g)
+        if_asked false e = tt
+
     pointers_named : (l : List Placed) (o : Cmp) (x : Value) (s : Shadow) (y : Value) (u : Shadow) (touched : List ℕ) (bs : List Touched) → Good l s → Good l u → Each (GoodTouched l) bs
         → NameAsked l (on.pointers_asked o (record { plain = x; shadow = s }) (record { plain = y; shadow = u }) touched bs)
     unfolding on.pointers_asked
-    pointers_named l o x (place p t) y (place q u) touched bs h g k = sides_named l o _ _ h g
-    pointers_named l o x (place p t) y (form g) touched bs h i k = sides_named l o _ _ h (without_named l t y touched bs k)
-    pointers_named l o x (place p t) y none touched bs h i k = sides_named l o _ _ h (without_named l t y touched bs k)
-    pointers_named l o x (form g) y (place q u) touched bs h i k = sides_named l o _ _ (without_named l u x touched bs k) i
-    pointers_named l o x none y (place q u) touched bs h i k = sides_named l o _ _ (without_named l u x touched bs k) i
+    pointers_named l o x (place p t) y (place q u) touched bs h g k = places_named l o p t q u h g
+    pointers_named l o x (place p t) y (form g) touched bs h i k = sides_named l t o _ _ h (without_named l t y touched bs k)
+    pointers_named l o x (place p t) y none touched bs h i k = sides_named l t o _ _ h (without_named l t y touched bs k)
+    pointers_named l o x (form g) y (place q u) touched bs h i k = sides_named l u o _ _ (without_named l u x touched bs k) i
+    pointers_named l o x none y (place q u) touched bs h i k = sides_named l u o _ _ (without_named l u x touched bs k) i
     pointers_named l o x (form g) y (form h) touched bs i j k = tt
     pointers_named l o x (form g) y none touched bs i j k = tt
     pointers_named l o x none y (form h) touched bs i j k = tt
@@ -372,31 +399,35 @@ module _ (params : List Cell) (layouts : ℕ → List Cell) where
     asks_test : (l : List Placed) (s : Shadow) → Good l s → NameAsked l (on.test_asked f s)
     unfolding on.test_asked
     asks_test l (form g) h = either_asked l (on.depends g) (one_of (on.two_choices (not_zero g) (is_zero g))) asks_nothing (two_named l (not_zero g) (is_zero g) h h) tt
-    asks_test l (place p t) h = two_named l (differ (asked.at p) nothing) (same (asked.at p) nothing) (h, tt) (h, tt)
+    asks_test l (place p t) h = two_named l (differ (asked.at p) nothing) (same (asked.at p) nothing) (points_at l p t h, tt, tt) (points_at l p t h, tt, tt)
     asks_test l none h = tt
 
-    letter_named : (l : List Placed) (b : Bool) (c : Choice) (cs : List Choice) → NameAtoms l c.atoms → NameChoices l cs → NameChoices l (if b then c ∷ cs else cs)
-    letter_named l true c cs h g = (h, g)
+    letter_named : (l : List Placed) (b : Bool) (c : Choice) (cs : List Choice) → (b ≡ true → NameAtoms l c.atoms) → NameChoices l cs → NameChoices l (if b then c ∷ cs else cs)
+    letter_named l true c cs h g = (h refl, g)
     letter_named l false c cs h g = g
 
-    letters_named : (l : List Placed) (p t n : ℕ) (bs : List Touched) → IsPointerAt l p → Each (GoodTouched l) bs → NameChoices l (on.letters p t n bs)
+    -- the first place of a block of this type
+    first_to : (l : List Placed) (t : ℕ) (b : Touched) → IsPointerTo l b.first b.type → nat_eq t b.type ≡ true → IsPointerTo l b.first t
+    first_to l t b h e = subst (λ (u : ℕ). IsPointerTo l b.first u) (sym (eqb-true t b.type e)) h
+
+    letters_named : (l : List Placed) (p t n : ℕ) (bs : List Touched) → IsPointerTo l p t → Each (GoodTouched l) bs → NameChoices l (on.letters p t n bs)
     unfolding on.letters
     letters_named l p t n [] h g = tt
-    letters_named l p t n (b ∷ bs) h g = letter_named l (nat_eq t b.type) _ (on.letters p t (suc n) bs) ((h, (g.0).0), tt) (letters_named l p t (suc n) bs h g.1)
+    letters_named l p t n (b ∷ bs) h g = letter_named l (nat_eq t b.type) _ (on.letters p t (suc n) bs) (λ e. (both_to l t (asked.at p) (asked.at b.first) h (first_to l t b (g.0).0 e), tt)) (letters_named l p t (suc n) bs h g.1)
 
-    one_differs : (l : List Placed) (b : Bool) (a : Atom) (m : List Atom) → NamesAtom l a → NameAtoms l m → NameAtoms l (if b then a ∷ m else m)
-    one_differs l true a m h g = (h, g)
+    one_differs : (l : List Placed) (b : Bool) (a : Atom) (m : List Atom) → (b ≡ true → NamesAtom l a) → NameAtoms l m → NameAtoms l (if b then a ∷ m else m)
+    one_differs l true a m h g = (h refl, g)
     one_differs l false a m h g = g
 
-    differs_named : (l : List Placed) (p t : ℕ) (bs : List Touched) → IsPointerAt l p → Each (GoodTouched l) bs → NameAtoms l (on.differs p t bs)
+    differs_named : (l : List Placed) (p t : ℕ) (bs : List Touched) → IsPointerTo l p t → Each (GoodTouched l) bs → NameAtoms l (on.differs p t bs)
     unfolding on.differs
     differs_named l p t [] h g = tt
-    differs_named l p t (b ∷ bs) h g = one_differs l (nat_eq t b.type) _ (on.differs p t bs) (h, (g.0).0) (differs_named l p t bs h g.1)
+    differs_named l p t (b ∷ bs) h g = one_differs l (nat_eq t b.type) _ (on.differs p t bs) (λ e. both_to l t (asked.at p) (asked.at b.first) h (first_to l t b (g.0).0 e)) (differs_named l p t bs h g.1)
 
     asks_access : (l : List Placed) (s : Shadow) (bs : List Touched) → Good l s → Each (GoodTouched l) bs → NameAsked l (on.access_asked s bs)
     unfolding on.access_asked on.access_choices
     asks_access l (place p t) bs h g = either_asked l (on.is_first p bs) asks_nothing (one_of (on.access_choices p t bs)) tt
-        (((h, tt), tt), each_end (λ c. NameAtoms l c.atoms) (on.letters p t 0 bs) _ (letters_named l p t 0 bs h g) ((h, tt), differs_named l p t bs h g))
+        (((points_at l p t h, tt, tt), tt), each_end (λ c. NameAtoms l c.atoms) (on.letters p t 0 bs) _ (letters_named l p t 0 bs h g) ((points_at l p t h, tt, tt), differs_named l p t bs h g))
     asks_access l (form g) bs h k = tt
     asks_access l none bs h k = tt
 
@@ -519,15 +550,15 @@ module _ (params : List Cell) (layouts : ℕ → List Cell) where
 
     -- ---- a block is touched
 
-    field_fits : (p t : ℕ) (l : List Placed) (c : ℕ) (k : Cell) → slice_get (layouts t) c ≡ Some k → IsPointerAt l p → ParentBelow (length l) (field p c) × FitsCell params layouts l (field p c) (cell_ty k)
-    field_fits p t l c k e h = (pointer_below l p h, (h, (t, get_map cell_ty (layouts t) c k e)))
+    field_fits : (p t : ℕ) (l : List Placed) (c : ℕ) (k : Cell) → slice_get (layouts t) c ≡ Some k → IsPointerTo l p t → ParentBelow (length l) (field p c) × FitsCell params layouts l (field p c) (cell_ty k)
+    field_fits p t l c k e h = (pointer_below l p t h, (t, h, get_map cell_ty (layouts t) c k e))
 
-    fields_are : (p t c : ℕ) (cs : List Cell) → on.field_places p c cs ≡ placed (field p) (layouts t) (λ l. IsPointerAt l p) (λ l x h. pointer_later l (x ∷ []) p h) (field_fits p t) c cs
+    fields_are : (p t c : ℕ) (cs : List Cell) → on.field_places p c cs ≡ placed (field p) (layouts t) (λ l. IsPointerTo l p t) (λ l x h. pointer_later l (x ∷ []) p t h) (field_fits p t) c cs
     unfolding on.field_places
     fields_are p t c [] = refl
     fields_are p t c (k ∷ cs) = ap (λ (l : List Placed). (let x : Placed = record { place = field p c; holds = cell_ty k } in x) ∷ l) (fields_are p t (suc c) cs)
 
-    touch_grown : (p t : ℕ) (s : Shadows) → IsPointerAt s.places p → IsPlaced s → Grown s (on.touch f layouts p t s)
+    touch_grown : (p t : ℕ) (s : Shadows) → IsPointerTo s.places p t → IsPlaced s → Grown s (on.touch f layouts p t s)
     unfolding on.touch
     touch_grown p t s g h =
         let l : List Placed = s.places in
@@ -538,13 +569,13 @@ module _ (params : List Cell) (layouts : ℕ → List Cell) where
           is = refl;
           placed = record {
             places = subst (λ (n : List Placed). ArePlaces params layouts (l ++ n)) (sym e)
-                (grow (field p) (layouts t) (λ l. IsPointerAt l p) (λ l x h. pointer_later l (x ∷ []) p h) (field_fits p t) 0 (layouts t) l (λ j k e. ap (slice_get (layouts t)) (let z : 0 + j ≡ j = omega arith in z) ∙ e) g h.places);
+                (grow (field p) (layouts t) (λ l. IsPointerTo l p t) (λ l x h. pointer_later l (x ∷ []) p t h) (field_fits p t) 0 (layouts t) l (λ j k e. ap (slice_get (layouts t)) (let z : 0 + j ≡ j = omega arith in z) ∙ e) g h.places);
             cells = record {
               made = made_later l m s.made (h.cells).made;
               touched = each_end (GoodTouched (l ++ m)) s.touched _ (each_later l m s.touched (h.cells).touched) (
-                pointer_later l m p g,
+                pointer_later l m p t g,
                 subst (λ (n : List Placed). AllGood (l ++ n) (on.cell_shadows f (length l) (layouts t))) (sym e)
-                    (good_cells (field p) (layouts t) (λ l. IsPointerAt l p) (λ l x h. pointer_later l (x ∷ []) p h) (field_fits p t) 0 (layouts t) l),
+                    (good_cells (field p) (layouts t) (λ l. IsPointerTo l p t) (λ l x h. pointer_later l (x ∷ []) p t h) (field_fits p t) 0 (layouts t) l),
               );
             };
           };

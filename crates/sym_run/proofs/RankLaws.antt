@@ -77,7 +77,7 @@ module _ (start : plain.Data) (named : List Named) (symbols : List Symbol) (o : 
 
 -- what a comparison asks, by the places that stand beside the pointers
 unfoldable pub pointers_by : Cmp → Option First → Option First → Traced → Traced → List ℕ → List Touched → traced.Asked
-pointers_by o (Some f) (Some g) a b touched l = traced.sides_asked o (Some (at f.place.0)) (Some (at g.place.0))
+pointers_by o (Some f) (Some g) a b touched l = traced.places_asked o f.place.0 f.ty.0 g.place.0 g.ty.0
 pointers_by o (Some f) None a b touched l = traced.sides_asked o (Some (at f.place.0)) (traced.side_without f.ty.0 b.plain touched l)
 pointers_by o None (Some g) a b touched l = traced.sides_asked o (traced.side_without g.ty.0 a.plain touched l) (Some (at g.place.0))
 pointers_by o None None a b touched l = traced.asks_nothing
@@ -99,7 +99,7 @@ pub pointers_are : (o : Cmp) (a b : Traced) (touched : List ℕ) (l : List Touch
 pointers_are o a b touched l = by_shadows o a.shadow b.shadow a.plain b.plain touched l
 
 module _ (o : Cmp) (a b : Traced) (touched : List ℕ) (l : List Touched) where
-  pub by_both : (f g : First) → Some f ≡ place_in a.shadow → Some g ≡ place_in b.shadow → traced.sides_asked o (Some (at f.place.0)) (Some (at g.place.0)) ≡ traced.pointers_asked o a b touched l
+  pub by_both : (f g : First) → Some f ≡ place_in a.shadow → Some g ≡ place_in b.shadow → traced.places_asked o f.place.0 f.ty.0 g.place.0 g.ty.0 ≡ traced.pointers_asked o a b touched l
   unfolding pointers_by
   by_both f g e k = ap₂ (λ (x y : Option First). pointers_by o x y a b touched l) e k ∙ pointers_are o a b touched l
 
@@ -141,15 +141,11 @@ past_reached (traced.form g) = refl
 past_reached (traced.place p t) = refl
 past_reached traced.none = refl
 
-place_reached : (f beside : First) (s : Shadow) → Some beside ≡ place_in s → traced.place f.place.0 beside.ty.0 ≡ traced.first_of (Some (blank f)) s
+place_reached : (f beside : First) (s : Shadow) → Some beside ≡ place_in s → traced.place f.place.0 f.ty.0 ≡ traced.first_of (Some (blank f)) s
 unfolding traced.first_of
 place_reached f beside (traced.form g) e = absurd (cc e)
 place_reached f beside traced.none e = absurd (cc e)
-place_reached f beside (traced.place p t) e = ap (λ (x : Option First). place_to f.place.0 x) e
-  where
-    place_to : ℕ → Option First → Shadow
-    place_to n None = traced.none
-    place_to n (Some g) = traced.place n g.ty.0
+place_reached f beside (traced.place p t) e = refl
 
 place_itself : (beside : First) (s : Shadow) → Some beside ≡ place_in s → s ≡ traced.place beside.place.0 beside.ty.0
 place_itself beside (traced.form g) e = absurd (cc e)
@@ -167,8 +163,8 @@ module _ (start : plain.Data) (named : List Named) (symbols : List Symbol) (o : 
   pub reached_past : None ≡ slice_get o.firsts n → s ≡ traced.reached_shadow (Object n) s (d.shadows).touched
   reached_past e = past_reached s ∙ ap (λ (x : Option First). traced.first_of (option_map blank x) s) e ∙ reached_by_first
 
-  pub reached_place : (f beside : First) → Some beside ≡ place_in s → Some f ≡ slice_get o.firsts n → traced.place f.place.0 beside.ty.0 ≡ traced.reached_shadow (Object n) s (d.shadows).touched
+  pub reached_place : (f beside : First) → Some beside ≡ place_in s → Some f ≡ slice_get o.firsts n → traced.place f.place.0 f.ty.0 ≡ traced.reached_shadow (Object n) s (d.shadows).touched
   reached_place f beside e k = place_reached f beside s e ∙ ap (λ (x : Option First). traced.first_of (option_map blank x) s) k ∙ reached_by_first
 
-  pub reached_itself : (f beside : First) → Some beside ≡ place_in s → Some f ≡ slice_get o.firsts n → f.place.0 ≡ beside.place.0 → s ≡ traced.reached_shadow (Object n) s (d.shadows).touched
-  reached_itself f beside e k q = place_itself beside s e ∙ ap (λ (x : ℕ). traced.place x beside.ty.0) (sym q) ∙ reached_place f beside e k
+  pub reached_itself : (f beside : First) → Some beside ≡ place_in s → Some f ≡ slice_get o.firsts n → f.place.0 ≡ beside.place.0 → f.ty.0 ≡ beside.ty.0 → s ≡ traced.reached_shadow (Object n) s (d.shadows).touched
+  reached_itself f beside e k q t = place_itself beside s e ∙ ap₂ traced.place (sym q) (sym t) ∙ reached_place f beside e k

@@ -161,6 +161,7 @@ offers_few a e same others h =
       few = omega (arith, count, n, k);
       ascend = subst (λ (l : List Outcome). Ascend l) (sym is) (h.few).1;
       not_own = subst (λ (l : List Outcome). In (outcome_at e) l → ⊥) (sym is) (subst (λ (o : Outcome). In o (outs (alternatives a)) → ⊥) (sym same) (h.few).2);
+      bytes = λ o i. (h.few).3 o (subst (λ (l : List Outcome). In o l) is i);
     }
 
 few_along : (c : Checked) (l : Log) (es : List Event) (n : ℕ) (e : Event) → AreEvents c l es → Each (λ a. Offered a.event) l → slice_get es n ≡ Some e → OffersFew e

@@ -3,6 +3,7 @@ use Rattle.std.specs.Prelude.{◌≡◌, ◌≤◌, List, [], ◌∷◌, length,
 use Rattle.cc_base.specs.declared.inputs.Input.{Input}
 use Rattle.cc_base.specs.declared.outcomes.Outcome.{Outcome}
 use Rattle.cc_base.specs.Limits.{Limits}
+use Rattle.cc_base.specs.Outcomes.{HasByte}
 use Rattle.cc_base.specs.Paths.{In, Ascend}
 use Rattle.cc_base.specs.Places.{Placed}
 use Rattle.cc_model.specs.declared.checked.Checked.{Checked}
@@ -45,11 +46,13 @@ ArePlain c _ _ = ⊥
 abbrev pub others_at : Event → List Outcome
 others_at e = map (λ c. c.outcome) e.others
 
--- the other outcomes are at most 28, ascend by their bytes, and are not the one that came; with it they are at most 29
+-- the other outcomes are at most 28, ascend by their bytes, are not the one that came, and have bytes; with that one they are at
+-- most 29
 pub record OffersFew (e : Event) : Type 0 where
   pub few : length e.others ≤ 28
   pub ascend : Ascend (others_at e)
   pub not_own : In (outcome_at e) (others_at e) → ⊥
+  pub bytes : (o : Outcome) → In o (others_at e) → HasByte o
 
 -- the atoms taken and those of the other outcomes name places that stood before the event
 pub record NamesPlaces (l : List Placed) (e : Event) : Type 0 where

@@ -188,7 +188,7 @@ impl Objects {
         Ok(())
     }
 
-    /// A pointer with a place, to the touched block with a rank: it has the block's first place.
+    /// A pointer with a place, to the touched block with a rank: it has the block's first place and its type.
     fn reached_by(
         &self,
         symbols: &mut Symbols,
@@ -205,10 +205,10 @@ impl Objects {
         match first_at(self.firsts.as_slice(), rank) {
             None => Ok(pointer),
             Some(first) => {
-                if first.place.0 == beside.place.0 {
+                if first.place.0 == beside.place.0 && first.ty.0 == beside.ty.0 {
                     return Ok(pointer);
                 }
-                let shadow = symbols.add(Symbol::Place(first.place, beside.ty))?;
+                let shadow = symbols.add(Symbol::Place(first.place, first.ty))?;
                 Ok(Cell {
                     value: pointer.value,
                     shadow,

@@ -19,6 +19,7 @@ use crate::asked::Asked;
 use crate::objects::{First, Objects};
 use crate::symbols::{Symbol, Symbols};
 use crate::trace::Choice;
+use cc_model::TermKind;
 use cc_model::base::{Items, NoMemory, Outcome, TyId};
 use checked_memory::{Cell, Value};
 use std::alloc::Global;
@@ -121,6 +122,22 @@ pub(crate) fn sides_asked(
     }
 }
 
+/// What a comparison of two places asks; a checked program compares no pointers to different types.
+#[tactic(auto, unfolding(cc_model::specs::Traced::places_asked))]
+fn places_asked(alloc: Global, differ: bool, a: First, b: First) -> Result<Asked, NoMemory>
+    ensures { IfOk result (λ asked. (o : core.Cmp) → is_ne o ≡ differ → asked_of asked ≡ traced.places_asked o a.place.0 a.ty.0 b.place.0 b.ty.0) }
+{
+    if a.ty.0 == b.ty.0 {
+        return sides_asked(
+            alloc,
+            differ,
+            Some(PtrTerm::At(a.place)),
+            Some(PtrTerm::At(b.place)),
+        );
+    }
+    Ok(Asked::Term(TermKind::Wide))
+}
+
 /// The first place of the touched block with a rank, if it is of this type.
 #[tactic(auto, unfolding(cc_model::specs::Traced::first_if))]
 fn first_of_type(firsts: &[First], rank: u8, target: TyId) -> Option<PtrTerm>
@@ -176,13 +193,13 @@ impl Objects {
             → asked_of asked ≡ traced.pointers_asked o (traced_of symbols.now a) (traced_of symbols.now b) (d.plain).touched (d.shadows).touched) }
     {
         match place_beside(symbols, a) {
-            Some(f) => {
-                let other = match place_beside(symbols, b) {
-                    Some(g) => Some(PtrTerm::At(g.place)),
-                    None => self.side_without(f.ty, b.value),
-                };
-                sides_asked(alloc, differ, Some(PtrTerm::At(f.place)), other)
-            }
+            Some(f) => match place_beside(symbols, b) {
+                Some(g) => places_asked(alloc, differ, f, g),
+                None => {
+                    let other = self.side_without(f.ty, b.value);
+                    sides_asked(alloc, differ, Some(PtrTerm::At(f.place)), other)
+                }
+            },
             None => match place_beside(symbols, b) {
                 Some(g) => {
                     let one = self.side_without(g.ty, a.value);

@@ -1,0 +1,14 @@
+pub mod Members
+pub mod Pointers
+pub mod Sliced
+pub mod Refuted
+pub mod Holding
+pub mod Assigned
+pub mod Kept
+pub mod Prefixes
+pub mod Ranges
+pub mod Gathered
+pub mod Steps
+pub mod Pushed
+pub mod Settled
+pub mod Answered

@@ -1,0 +1,161 @@
+-- The outcomes of an event, and what a new run tells.
+use Rattle.std.proofs.Common.{◌≡◌, ◌≢◌, ℕ, zero, suc, ◌-◌, ◌<◌, ◌≤◌, ◌⊎◌, ◌↔◌, inl, inr, List, [], ◌∷◌, ◌++◌, length, map, take, Option, Some, None, MatchOption, All, slice_get, slice_index_or, refl, sym, ap, ap₂, ◌∙◌, subst, arith, get_or, insert}
+use Rattle.cc_base.specs.declared.inputs.Input.{Input}
+use Rattle.cc_base.specs.declared.outcomes.Outcome.{Outcome}
+use Rattle.cc_base.specs.declared.outcomes.Outcome.TheVariants.{Zero}
+use Rattle.cc_base.specs.Limits.{InRange}
+use Rattle.cc_base.specs.Outcomes.{byte_of, HasByte}
+use Rattle.cc_base.specs.Paths.{In, Path, Ascend, next}
+use Rattle.cc_model.specs.Canonical.{base_input_of}
+use Rattle.cc_model.specs.CheckedProgram.{core_of}
+use Rattle.cc_model.specs.Runs.{IsInput, params_of, path_at}
+use Rattle.search_dfs.specs.declared.below.Event.{Event}
+use Rattle.search_dfs.specs.declared.below.Trace.{Trace}
+use Rattle.search_dfs.specs.declared.open.Pending.{Pending}
+use Rattle.search_dfs.specs.Below.{Tells, OffersFew, outcome_at, others_at}
+use Rattle.search_dfs.specs.Inserting.{IsPlace}
+use Rattle.search_dfs.specs.Setting.{Setting, layer_of, TraceOf, ChoicesOf, own_at, within_of, others_of, path_of, base_of}
+use Rattle.search_dfs.specs.Stack.{last_first, left_at}
+use Rattle.std.proofs.lemmas.List.Elements.{All-nil, All-cons, All-append, All-take}
+use Rattle.search_dfs.proofs.Down.{last_is, snoc_first, left_same, left_more}
+use Rattle.search_dfs.proofs.Inserting.{ascends, in_inserted}
+use Rattle.search_dfs.proofs.Paths.{order_of, byte_tells}
+
+-- ---- the own outcome among the others
+
+module _ (os : List Outcome) (own : Outcome) (n : ℕ) (place : IsPlace (λ x. byte_of x < byte_of own) os n) where
+  got : (l : List Outcome) (k : ℕ) (a : Outcome) → slice_get l k ≡ Some a → In a l
+  got [] k a e = absurd (cc e)
+  got (x ∷ l) zero a e = inl (cc e)
+  got (x ∷ l) (suc k) a e = inr (got l k a e)
+
+  pub choices_ascend : Ascend os → (In own os → ⊥) → Ascend (insert os n own)
+  choices_ascend h other = ascends Outcome (λ o p. byte_of o < byte_of p) own (λ x z g k. omega (arith, g, k)) os n h place.before above
+    where
+      above : (x : Outcome) → slice_get os n ≡ Some x → byte_of own < byte_of x
+      above x e = by (order_of (byte_of own) (byte_of x))
+        where
+          by : (byte_of own < byte_of x) ⊎ ((byte_of own ≡ byte_of x) ⊎ (byte_of x < byte_of own)) → byte_of own < byte_of x
+          by (inl k) = k
+          by (inr (inl k)) = absurd (other (subst (λ z. In z os) (sym (byte_tells own x k)) (got os n x e)))
+          by (inr (inr k)) = absurd (place.next x e k)
+
+  pub choices_all : (o : Outcome) → In o (insert os n own) ↔ ((o ≡ own) ⊎ In o os)
+  choices_all o = (
+    (λ i. elim ((in_inserted os n own o).0 i) [ inl j ↦ inr j | inr e ↦ inl e ]),
+    (λ i. elim i [ inl e ↦ (in_inserted os n own o).1 (inr e) | inr j ↦ (in_inserted os n own o).1 (inl j) ]),
+  )
+
+-- ---- an event of a run
+
+pub map_long : {A B : Type 0} → (f : A → B) (l : List A) → length (map f l) ≡ length l
+map_long f [] = refl
+map_long f (x ∷ l) = ap suc (map_long f l)
+
+pub own_index : (l : Path) (k : ℕ) → slice_index_or l k Zero ≡ own_at k l
+own_index [] k = refl
+own_index (x ∷ l) zero = refl
+own_index (x ∷ l) (suc k) = own_index l k
+
+pub there_is : {A : Type 0} → (l : List A) (k : ℕ) (x : A) → k < length l → x ≡ get_or l k x → slice_get l k ≡ Some x
+there_is [] k x h e = absurd (omega (arith, h))
+there_is (a ∷ l) zero x h e = ap Some (sym e)
+there_is (a ∷ l) (suc k) x h e = there_is l k x (omega (arith, h)) e
+
+own_there : (l : List Event) (k : ℕ) (e : Event) → slice_get l k ≡ Some e → outcome_at e ≡ own_at k (map outcome_at l)
+own_there [] k e f = absurd (cc f)
+own_there (a ∷ l) zero e f = let g : e ≡ a = cc f in ap outcome_at g
+own_there (a ∷ l) (suc k) e f = own_there l k e f
+
+module _ (s : Setting) where
+  pub within_input : (i : Input) → within_of s i → IsInput (core_of s.checked) s.limits i
+  unfolding layer_of
+  within_input i w = w
+
+  module _ (t : Trace) (p : Path) (tr : TraceOf s t p) where
+    pub events_path : map outcome_at t.events ≡ p
+    unfolding layer_of
+    events_path = (tr.trace).path ∙ sym tr.path
+
+    pub events_long : length t.events ≡ length p
+    events_long = sym (map_long outcome_at t.events) ∙ ap length events_path
+
+    pub event_few : (k : ℕ) (e : Event) → k < length p → e ≡ get_or t.events k e → OffersFew e
+    event_few k e h f = let n = events_long in (tr.trace).few k e (there_is t.events k e (omega (arith, h, n)) f)
+
+    pub event_choices : (k : ℕ) (e : Event) (os : List Outcome) → k < length p → e ≡ get_or t.events k e → Ascend os → ((o : Outcome) → In o os ↔ ((o ≡ outcome_at e) ⊎ In o (others_at e))) → length os ≤ 29 → ChoicesOf s t.input k os
+    unfolding layer_of
+    event_choices k e os h f up all few =
+        let n = events_long in
+        let at = there_is t.events k e (omega (arith, h, n)) f in
+        let own : outcome_at e ≡ own_at k (path_of s t.input) = own_there t.events k e at ∙ ap (own_at k) (tr.trace).path in
+        let same : others_at e ≡ others_of s t.input k = (tr.trace).others k e at in
+        record {
+          ascend = up;
+          all = λ o. subst (λ x. In o os ↔ ((o ≡ x) ⊎ In o (others_of s t.input k))) own (subst (λ l. In o os ↔ ((o ≡ outcome_at e) ⊎ In o l)) same (all o));
+          few = few;
+        }
+
+  pub made_trace : (i : Input) (t : Trace) (p : Path) → within_of s i → Tells s.checked s.limits i t → length t.events ≤ s.limits.depth → p ≡ map outcome_at t.events → InRange s.limits → TraceOf s t p
+  unfolding layer_of
+  made_trace i t p w tells short e range =
+      let here : Tells s.checked s.limits t.input t = subst (λ h. Tells s.checked s.limits h t) (sym tells.input) tells in
+      record {
+        within = subst (within_of s) (sym tells.input) w;
+        trace = here;
+        path = e ∙ here.path;
+        end = here.end;
+        short = let n = map_long outcome_at t.events in let m : length p ≡ length (map outcome_at t.events) = ap length e in omega (arith, n, m, short);
+        few = range.depth_high;
+        bytes = subst (All HasByte) (sym e) here.bytes;
+      }
+
+-- ---- the last run
+
+module _ (l : List Pending) (y r : Pending) (rs : List Pending) (d : ℕ) (at : y ≡ get_or l (length l - 1) y) (e : last_first l ≡ r ∷ rs) where
+  last_at : y ≡ r
+  last_at = at ∙ last_is l r y rs e
+
+  pub left_last : y.from ≢ d → last_first l ≡ left_at d (r ∷ rs)
+  left_last n = e ∙ sym (left_more d r rs (λ f. n (ap (λ (z : Pending). z.from) last_at ∙ f)))
+
+  tails : (a b : Pending) (k m : List Pending) → a ∷ k ≡ b ∷ m → k ≡ m
+  tails a b k m f = cc f
+
+  pub popped_last : (k : List Pending) (x : Option Pending) → 0 < length l → MatchOption x ((l ≡ []) × (k ≡ [])) (λ z. l ≡ k ++ z ∷ []) → y.from ≡ d → last_first k ≡ left_at d (r ∷ rs)
+  popped_last k None some m f = let n : length l ≡ 0 = ap length m.0 in absurd (omega (arith, n, some))
+  popped_last k (Some z) some m f =
+      tails z r (last_first k) rs (sym (snoc_first k z) ∙ ap last_first (sym m) ∙ e)
+      ∙ sym (left_same d r rs (sym (ap (λ (z : Pending). z.from) last_at) ∙ f))
+
+-- ---- an alternative that an event offers
+
+some_at : (l : List Event) (k : ℕ) → k < length l → (e : Event) × (slice_get l k ≡ Some e)
+some_at [] k h = absurd (omega (arith, h))
+some_at (x ∷ l) zero h = (x, refl)
+some_at (x ∷ l) (suc k) h = some_at l k (omega (arith, h))
+
+module _ (s : Setting) where
+  pub path_there : (i : Input) → path_of s i ≡ path_at (core_of s.checked) s.limits i
+  unfolding layer_of
+  path_there i = refl
+
+  module _ (t : Trace) (p : Path) (tr : TraceOf s t p) (k : ℕ) (o : Outcome) (h : k < length p) (i : In o (others_of s t.input k)) where
+    pub event_offered : (e : Event) × (slice_get t.events k ≡ Some e) × In o (others_at e)
+    unfolding layer_of
+    event_offered = let n = events_long s t p tr in let e = some_at t.events k (omega (arith, h, n)) in
+        (e.0, e.1, subst (In o) (sym ((tr.trace).others k e.0 e.1)) i)
+
+    -- the prefix of an alternative has bytes
+    pub prefix_bytes : All HasByte (next (take k p) o)
+    prefix_bytes = let e = event_offered in
+        All-append HasByte (take k p) (o ∷ []) (All-take HasByte k p tr.bytes) (All-cons HasByte o [] ((tr.trace).other_bytes k e.0 e.1 o e.2) (All-nil HasByte))
+
+module _ (s : Setting) (i : Input) where
+  pub input_within : IsInput (core_of s.checked) s.limits i → within_of s i
+  unfolding layer_of
+  input_within w = w
+
+  pub base_there : i ≡ base_input_of s.limits (params_of (core_of s.checked)) → i ≡ base_of s
+  unfolding layer_of
+  base_there e = e

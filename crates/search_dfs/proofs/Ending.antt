@@ -1,0 +1,130 @@
+-- What a search has written at its end.
+use Rattle.std.proofs.Common.{◌≡◌, ℕ, zero, suc, get_or, ◌+◌, ◌<◌, ◌≤◌, ◌⊎◌, ◌↔◌, ◌||◌, inl, inr, Bool, true, false, List, [], ◌∷◌, ◌++◌, length, map, drop, Option, refl, sym, ap, ◌∙◌, subst, arith, append_assoc, append-nil}
+use Rattle.cc_base.specs.declared.inputs.Test.{Test}
+use Rattle.cc_base.specs.Paths.{Path, In}
+use Rattle.cc_model.specs.Tested.{Term}
+use Rattle.cc_model.specs.Listing.{Item, Counts, WasRun, count_by, is_test, is_run, is_spent, is_at_steps, is_stray, is_unrun}
+use Rattle.cc_model.specs.Report.{item_lines, term_line, term_lines, has_fault}
+use Rattle.cc_outside.specs.Faults.{Rose}
+use Rattle.cc_outside.specs.Told.{appended, WritesPart}
+use Rattle.cc_outside.proofs.ToldLemmas.{appended-appended, appended-empty, WritesPart-none, WritesPart-first, WritesPart-after}
+use Rattle.search_dfs.proofs.Choices.{map_long}
+use Rattle.search_dfs.specs.declared.fault.SearchFault.{SearchFault}
+use Rattle.search_dfs.specs.declared.fault.SearchFault.TheVariants as fault
+use Rattle.search_dfs.specs.declared.search.Summary.{Summary}
+use Rattle.search_dfs.specs.declared.tally.FoundTerm.{FoundTerm}
+use Rattle.search_dfs.specs.declared.tally.Tally.{Tally}
+use Rattle.search_dfs.specs.Explored.{Explored, ExploredSome, Counted, Sums}
+use Rattle.search_dfs.specs.Output.{seen_term, out, InOrder, Tallied}
+use Rattle.search_dfs.specs.Setting.{Setting, layer_of}
+use Rattle.search_dfs.specs.Turns.{SinkCause}
+use Rattle.search_dfs.specs.Whole.{Listed_whole, Listed_part}
+
+-- ---- lines that are written one after another
+
+-- what was written since the start is all but the rest
+pub record SoFar (start now : Option (List ℕ)) (whole rest : List ℕ) : Type 0 where
+  pub before : List ℕ
+  pub whole_is : before ++ rest ≡ whole
+  pub written : now ≡ appended start before
+
+pub at_start : (start : Option (List ℕ)) (whole : List ℕ) → SoFar start start whole whole
+at_start start whole = record { before = []; whole_is = refl; written = sym (appended-empty start) }
+
+pub one_more : (start now new : Option (List ℕ)) (whole rest line rest' : List ℕ) → SoFar start now whole rest → rest ≡ line ++ rest' → new ≡ appended now line → SoFar start new whole rest'
+one_more start now new whole rest line rest' s e w = record {
+  before = s.before ++ line;
+  whole_is = append_assoc s.before line rest' ∙ (ap (λ r. s.before ++ r) (sym e) ∙ s.whole_is);
+  written = w ∙ (ap (λ o. appended o line) s.written ∙ appended-appended start s.before line);
+}
+
+pub all_written : (start now : Option (List ℕ)) (whole rest : List ℕ) → SoFar start now whole rest → rest ≡ [] → now ≡ appended start whole
+all_written start now whole rest s e = s.written ∙ ap (λ u. appended start u) (sym (append-nil s.before) ∙ (ap (λ r. s.before ++ r) (sym e) ∙ s.whole_is))
+
+pub part_written : (start now new : Option (List ℕ)) (whole rest line rest' : List ℕ) → SoFar start now whole rest → rest ≡ line ++ rest' → WritesPart now new line → WritesPart start new whole
+part_written start now new whole rest line rest' s e w =
+    subst (λ u. WritesPart start new u) (ap (λ r. s.before ++ r) (sym e) ∙ s.whole_is)
+    (WritesPart-after start now new s.before (line ++ rest') s.written (WritesPart-first now new line rest' w))
+
+-- ---- why it ended
+
+pub sink_later : (a b c : ℕ) (e : SearchFault) → a ≤ b → SinkCause b c e → SinkCause a c e
+sink_later a b c fault.Sink h (inl k) = inl (omega (arith, h, k))
+sink_later a b c fault.Sink h (inr k) = inr k
+sink_later a b c fault.NoMemory h k = tt
+
+-- ---- the whole
+
+module _ (p : Setting) (after : Option Path) (limit : ℕ) (t0 t1 : Tally) (old mid new : Option (List ℕ)) (f0 f1 : ℕ)
+    (none : (t0.terms).items ≡ []) (zero : t0 ≡ record { paths = 0; runs = 0; spent = 0; steps = 0; strays = 0; unrun = 0; fault = false; terms = t0.terms }) where
+  abbrev found : List Term
+  found = map seen_term (t1.terms).items
+
+  abbrev Whole : Type 0
+  Whole = Listed_whole p after limit (out old f0 t0) (out mid f1 t1)
+
+  from_none : (x : ℕ) (a b c : ℕ) → x ≡ b → b ≡ a + c → a ≡ 0 → x ≡ c
+  from_none x a b c e f g = omega (arith, e, f, g)
+
+  abbrev counts : ℕ → ℕ → ℕ → ℕ → ℕ → Counts
+  counts t s n r u = record { terms = t; spent = s; steps = n; strays = r; unrun = u }
+
+  same_counts : (a b : Counts) → a.terms ≡ b.terms → a.spent ≡ b.spent → a.steps ≡ b.steps → a.strays ≡ b.strays → a.unrun ≡ b.unrun → a ≡ b
+  same_counts a b e f g h i =
+      ap (λ x. counts x a.spent a.steps a.strays a.unrun) e ∙ ap (λ x. counts b.terms x a.steps a.strays a.unrun) f ∙ ap (λ x. counts b.terms b.spent x a.strays a.unrun) g
+      ∙ ap (λ x. counts b.terms b.spent b.steps x a.unrun) h ∙ ap (λ x. counts b.terms b.spent b.steps b.strays x) i
+
+  all_terms : (l : Whole) (e : Term) → In e found ↔ ((t : Test) × WasRun t l.items × In e ((layer_of p).terms t.input))
+  all_terms l e = let k = ((l.wrote).tally).terms e in (
+    (λ i. elim (k.0 i) [ inl j ↦ absurd (subst (λ m. In e (map seen_term m)) none j) | inr j ↦ j ]),
+    (λ j. k.1 (inr j)),
+  )
+
+  ordered : Whole → InOrder (t1.terms).items
+  ordered l = ((l.wrote).tally).order (subst InOrder (sym none) tt)
+
+  pub explored : (s : Summary) → Whole → new ≡ appended mid (term_lines found) → Counted t1 s → Explored p after limit old new s
+  explored s l w c =
+      let k = (l.wrote).tally in record {
+        items = l.items;
+        terms = found;
+        written = w ∙ ap (λ o. appended o (term_lines found)) (l.wrote).bytes ∙ appended-appended old (item_lines l.items) (term_lines found);
+        sound = l.sound;
+        licensed = l.licensed p.limits found (ordered l) (all_terms l);
+        covered = l.covered;
+        sums = record {
+          paths = from_none s.paths t0.paths t1.paths _ c.paths k.paths (ap (λ (t : Tally). t.paths) zero);
+          runs = from_none s.runs t0.runs t1.runs _ c.runs k.runs (ap (λ (t : Tally). t.runs) zero);
+          counts = same_counts _ _ (c.terms ∙ sym (map_long seen_term (t1.terms).items))
+              (from_none s.spent t0.spent t1.spent _ c.spent k.spent (ap (λ (t : Tally). t.spent) zero))
+              (from_none s.steps t0.steps t1.steps _ c.steps k.steps (ap (λ (t : Tally). t.steps) zero))
+              (from_none s.strays t0.strays t1.strays _ c.strays k.strays (ap (λ (t : Tally). t.strays) zero))
+              (from_none s.unrun t0.unrun t1.unrun _ c.unrun k.unrun (ap (λ (t : Tally). t.unrun) zero));
+          fault = c.fault ∙ k.fault ∙ ap (λ b. b || has_fault l.items) (ap (λ (t : Tally). t.fault) zero);
+        };
+      }
+
+  pub explored_part : Whole → WritesPart mid new (term_lines found) → ExploredSome p after old new
+  explored_part l w = record {
+    items = l.items;
+    terms = found;
+    written = WritesPart-after old mid new (item_lines l.items) (term_lines found) (l.wrote).bytes w;
+    sound = l.sound;
+  }
+
+  pub listed_part : Listed_part p after limit (out old f0 t0) (out mid f1 t1) → ExploredSome p after old mid
+  listed_part l = record {
+    items = l.items;
+    terms = [];
+    written = WritesPart-first old mid (item_lines l.items) (term_lines []) l.wrote;
+    sound = l.sound;
+  }
+
+-- the lines of terms from one on
+pub terms_next : (l : List FoundTerm) (i : ℕ) (d : FoundTerm) → i < length l → term_lines (map seen_term (drop i l)) ≡ term_line (seen_term (get_or l i d)) ++ term_lines (map seen_term (drop (i + 1) l))
+terms_next [] i d h = absurd (omega (arith, h))
+terms_next (x ∷ l) zero d h = refl
+terms_next (x ∷ l) (suc i) d h = terms_next l i d (omega (arith, h)) ∙ ap (λ m. term_line (seen_term (get_or l i d)) ++ term_lines (map seen_term (drop m (x ∷ l)))) (more i)
+  where
+    more : (i : ℕ) → suc (i + 1) ≡ suc i + 1
+    more i = omega arith

@@ -1,0 +1,19 @@
+-- One line that is written and counted.
+use Rattle.std.proofs.Common.{◌≡◌, ◌≤◌, ℕ, List, [], ◌∷◌, ◌++◌, Option, refl, sym, ap, ◌∙◌, subst, append-nil}
+use Rattle.cc_model.specs.Listing.{Item}
+use Rattle.cc_model.specs.Report.{item_line, item_lines}
+use Rattle.cc_outside.specs.Told.{appended, WritesPart}
+use Rattle.cc_outside.proofs.ToldLemmas.{WritesPart-none, WritesPart-first}
+use Rattle.search_dfs.specs.declared.tally.Tally.{Tally}
+use Rattle.search_dfs.specs.Output.{out, Tallied, Wrote, WroteSome}
+use Rattle.search_dfs.specs.Setting.{Setting}
+
+module _ (p : Setting) (x : Item) (line : List ℕ) (e : line ≡ item_line x) (old new : Option (List ℕ)) (f g : ℕ) (t u : Tally) where
+  pub line_wrote : new ≡ appended old line → f ≤ g → Tallied p (x ∷ []) t u → Wrote p (x ∷ []) (out old f t) (out new g u)
+  line_wrote w h k = record { bytes = w ∙ ap (appended old) (e ∙ sym (append-nil (item_line x))); faults = h; tally = k }
+
+  pub line_some : WritesPart old new line → WroteSome p (x ∷ []) (out old f t) (out new g u)
+  line_some w = WritesPart-first old new (item_line x) [] (subst (WritesPart old new) e w)
+
+pub nothing_some : (e : List Item) (old : Option (List ℕ)) → WritesPart old old (item_lines e)
+nothing_some e old = WritesPart-none old old (item_lines e) refl

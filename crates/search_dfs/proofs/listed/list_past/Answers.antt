@@ -1,0 +1,12 @@
+use Rattle.std.proofs.Common.{[], ◌∷◌, ◌∙◌}
+use Rattle.cc_model.specs.Listing.{past_item}
+use Rattle.search_dfs.specs.Turns.{test_at}
+use Rattle.search_dfs.proofs.Down.{on_err, ok_map}
+use Rattle.search_dfs.proofs.Lined.{line_wrote, nothing_some}
+use Rattle.search_dfs.proofs.listed.list_past.Goals as goal
+
+pub returns-in_err-line-clause-err : goal.returns-in_err-line-clause-err
+returns-in_err-line-clause-err g c = on_err _ (nothing_some (past_item (test_at (c.args.run).now) ∷ []) _)
+
+pub returns-in_err-count_past-clause-err : goal.returns-in_err-count_past-clause-err
+returns-in_err-count_past-clause-err g c = on_err _ (nothing_some (past_item (test_at (c.args.run).now) ∷ []) _)

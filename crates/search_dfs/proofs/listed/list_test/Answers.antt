@@ -1,0 +1,12 @@
+use Rattle.std.proofs.Common.{[], ◌∷◌, ◌∙◌}
+use Rattle.cc_model.specs.Listing.{test_item}
+use Rattle.search_dfs.specs.Turns.{test_at}
+use Rattle.search_dfs.proofs.Down.{on_err, ok_map}
+use Rattle.search_dfs.proofs.Lined.{line_wrote, nothing_some}
+use Rattle.search_dfs.proofs.listed.list_test.Goals as goal
+
+pub returns-in_err-line-clause-err : goal.returns-in_err-line-clause-err
+returns-in_err-line-clause-err g c = on_err _ (nothing_some (test_item (test_at (c.args.run).now) ∷ []) _)
+
+pub returns-in_err-count_test-clause-err : goal.returns-in_err-count_test-clause-err
+returns-in_err-count_test-clause-err g c = on_err _ (nothing_some (test_item (test_at (c.args.run).now) ∷ []) _)

@@ -1,0 +1,26 @@
+use Rattle.std.proofs.Common.{◌≡◌, ◌≤◌, map, option_map, refl, sym, ap, ◌∙◌, subst, arith}
+use Rattle.cc_model.specs.Report.{term_lines}
+use Rattle.cc_outside.specs.Told.{appended, WritesPart}
+use Rattle.search_dfs.specs.Output.{seen_term}
+use Rattle.search_dfs.specs.Setting.{setting}
+use Rattle.search_dfs.proofs.Down.{on_err}
+use Rattle.search_dfs.proofs.Ending.{explored, explored_part, listed_part, sink_later}
+use Rattle.search_dfs.proofs.Unexplored.{nothing_written}
+use Rattle.search_dfs.proofs.search.explore.Goals as goal
+
+pub returns-in_err-lawful-clause-some : goal.returns-in_err-lawful-clause-some
+returns-in_err-lawful-clause-some g c = on_err _ (nothing_written _ _ _ _ refl)
+
+pub search_all-requires-clause-known : goal.search_all-requires-clause-known
+search_all-requires-clause-known g c = record { points = c.requires.points; lawful = c.in_ok-lawful.ensures }
+
+pub returns-in_err-search_all-clause-some : goal.returns-in_err-search_all-clause-some
+returns-in_err-search_all-clause-some g c = on_err _ (listed_part (setting c.args.checked.now c.args.bounds.now c.args.budget) (option_map (λ r. r.now) c.args.after) c.args.runs c.new-tally.result c.search_all.new.tally (g.K.Sink.written (c.args.out).now) (g.K.Sink.written c.search_all.new.sink) (g.K.Sink.written c.search_all.new.sink) (g.K.Sink.faults (c.args.out).now) (g.K.Sink.faults c.search_all.new.sink) c.new-tally.ensures.none c.new-tally.ensures.zero c.in_err-search_all.ensures.err)
+
+pub returns-in_err-write_terms-clause-some : goal.returns-in_err-write_terms-clause-some
+returns-in_err-write_terms-clause-some g c = on_err _ (explored_part (setting c.args.checked.now c.args.bounds.now c.args.budget) (option_map (λ r. r.now) c.args.after) c.args.runs c.new-tally.result c.search_all.new.tally (g.K.Sink.written (c.args.out).now) (g.K.Sink.written c.search_all.new.sink) (g.K.Sink.written c.write_terms.new.sink) (g.K.Sink.faults (c.args.out).now) (g.K.Sink.faults c.search_all.new.sink) c.new-tally.ensures.none c.new-tally.ensures.zero c.in_ok-search_all.ensures.ok
+    (subst (λ l. WritesPart (g.K.Sink.written c.search_all.new.sink) (g.K.Sink.written c.write_terms.new.sink) (term_lines (map seen_term l))) c.as_slice.ensures.value c.in_err-write_terms.ensures.part))
+
+pub returns-clause-explored : goal.returns-clause-explored
+returns-clause-explored g c = explored (setting c.args.checked.now c.args.bounds.now c.args.budget) (option_map (λ r. r.now) c.args.after) c.args.runs c.new-tally.result c.search_all.new.tally (g.K.Sink.written (c.args.out).now) (g.K.Sink.written c.search_all.new.sink) (g.K.Sink.written c.write_terms.new.sink) (g.K.Sink.faults (c.args.out).now) (g.K.Sink.faults c.search_all.new.sink) c.new-tally.ensures.none c.new-tally.ensures.zero c.summed.result c.in_ok-search_all.ensures.ok
+    (c.in_ok-write_terms.ensures.ok ∙ ap (λ l. appended (g.K.Sink.written c.search_all.new.sink) (term_lines (map seen_term l))) c.as_slice.ensures.value) c.summed.ensures

@@ -1,0 +1,55 @@
+-- What the search takes from a traced run.
+use Rattle.std.specs.Prelude.{ℕ, ◌≤◌, ◌≡◌, List, [], ◌∷◌, length, map, option_map, unwrap_or, Some, slice_get, All, nat_eq, if◌then◌else◌}
+use Rattle.cc_base.specs.declared.inputs.Input.{Input}
+use Rattle.cc_base.specs.declared.outcomes.Outcome.{Outcome}
+use Rattle.cc_base.specs.Limits.{Limits}
+use Rattle.cc_base.specs.Outcomes.{HasByte}
+use Rattle.cc_base.specs.Paths.{In, Ascend}
+use Rattle.cc_model.specs.declared.checked.Checked.{Checked}
+use Rattle.cc_model.specs.declared.checked.Site.{Site}
+use Rattle.cc_model.specs.CheckedProgram.{core_of}
+use Rattle.cc_model.specs.Conditions.{alternatives_at, events_of, terms}
+use Rattle.cc_model.specs.Runs.{path_at, end_at}
+use Rattle.cc_model.specs.Tested.{Term as Found}
+use Rattle.cc_laws.specs.LinearForms.{linear}
+use Rattle.search_dfs.specs.declared.below.Event.{Event}
+use Rattle.search_dfs.specs.declared.below.Term.{Term}
+use Rattle.search_dfs.specs.declared.below.Trace.{Trace}
+
+-- the outcome that came
+abbrev pub outcome_at : Event → Outcome
+outcome_at e = (e.taken).outcome
+
+-- the other outcomes
+abbrev pub others_at : Event → List Outcome
+others_at e = map (λ c. c.outcome) e.others
+
+-- the other outcomes are at most 28, ascend by their bytes, and are not the one that came; with it they are at most 29
+pub record OffersFew (e : Event) : Type 0 where
+  pub few : length e.others ≤ 28
+  pub ascend : Ascend (others_at e)
+  pub not_own : In (outcome_at e) (others_at e) → ⊥
+
+-- the column of a token that has a site
+unfoldable pub column_in : List Site → ℕ → ℕ
+column_in [] t = 0
+column_in (x ∷ l) t = if nat_eq x.token t then x.col else column_in l t
+
+-- the token of a site
+abbrev pub token_in : List Site → ℕ → ℕ
+token_in sites i = unwrap_or (option_map (λ x. x.token) (slice_get sites i)) 0
+
+-- a term by its line and column
+abbrev pub found_at : Checked → Term → Found
+found_at c t = record { line = (core_of c).line (token_in c.sites (t.site).0); col = column_in c.sites (token_in c.sites (t.site).0); kind = t.kind }
+
+-- the trace tells of the traced run of the checked program on the input, within the bounds
+pub record Tells (c : Checked) (b : Limits) (h : Input) (t : Trace) : Type 0 where
+  pub input : t.input ≡ h
+  pub path : map outcome_at t.events ≡ path_at (core_of c) b h
+  pub others : (k : ℕ) (e : Event) → slice_get t.events k ≡ Some e → others_at e ≡ map (λ x. x.outcome) (alternatives_at k (events_of linear (core_of c) b h))
+  pub end : t.end ≡ end_at (core_of c) b h
+  pub terms : map (found_at c) t.terms ≡ terms (core_of c).line (column_in c.sites) (events_of linear (core_of c) b h)
+  pub few : (k : ℕ) (e : Event) → slice_get t.events k ≡ Some e → OffersFew e
+  pub bytes : All HasByte (map outcome_at t.events)
+  pub other_bytes : (k : ℕ) (e : Event) → slice_get t.events k ≡ Some e → (o : Outcome) → In o (others_at e) → HasByte o

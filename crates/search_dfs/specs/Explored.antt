@@ -1,0 +1,48 @@
+-- What a search as a whole owes.
+use Rattle.std.specs.Prelude.{◌≡◌, ℕ, List, ◌++◌, length, Option}
+use Rattle.cc_base.specs.Paths.{Path}
+use Rattle.cc_model.specs.Tested.{Term}
+use Rattle.cc_model.specs.Listing.{Item, Listing, Counts, counts_of, path_count, run_count, Sound, Licensed, Covered}
+use Rattle.cc_model.specs.Report.{item_lines, term_lines, has_fault}
+use Rattle.cc_outside.specs.Told.{appended, WritesPart}
+use Rattle.search_dfs.specs.declared.search.Summary.{Summary}
+use Rattle.search_dfs.specs.declared.tally.Tally.{Tally}
+use Rattle.search_dfs.specs.Setting.{Setting, layer_of}
+
+abbrev counted : Summary → Counts
+counted s = record { terms = s.terms; spent = s.spent; steps = s.steps; strays = s.strays; unrun = s.unrun }
+
+-- the summary has the counts of the listing
+pub record Sums (l : Listing) (s : Summary) : Type 0 where
+  pub paths : s.paths ≡ path_count l
+  pub runs : s.runs ≡ run_count l
+  pub counts : counted s ≡ counts_of l
+  pub fault : s.fault ≡ has_fault l.items
+
+-- the summary has what was counted
+pub record Counted (t : Tally) (s : Summary) : Type 0 where
+  pub paths : s.paths ≡ t.paths
+  pub runs : s.runs ≡ t.runs
+  pub terms : s.terms ≡ length (t.terms).items
+  pub spent : s.spent ≡ t.spent
+  pub steps : s.steps ≡ t.steps
+  pub strays : s.strays ≡ t.strays
+  pub unrun : s.unrun ≡ t.unrun
+  pub fault : s.fault ≡ t.fault
+
+-- what was written are the lines of a listing that is sound, licensed and covered, and the summary has its counts
+pub record Explored (p : Setting) (after : Option Path) (limit : ℕ) (old new : Option (List ℕ)) (s : Summary) : Type 0 where
+  pub items : List Item
+  pub terms : List Term
+  pub written : new ≡ appended old (item_lines items ++ term_lines terms)
+  pub sound : Sound after ((layer_of p).runs) items
+  pub licensed : Licensed after (layer_of p) limit (record { bounds = p.limits; items = items; terms = terms })
+  pub covered : Covered after (layer_of p) items
+  pub sums : Sums (record { bounds = p.limits; items = items; terms = terms }) s
+
+-- what was written is a first part of the lines of sound items and of terms
+pub record ExploredSome (p : Setting) (after : Option Path) (old new : Option (List ℕ)) : Type 0 where
+  pub items : List Item
+  pub terms : List Term
+  pub written : WritesPart old new (item_lines items ++ term_lines terms)
+  pub sound : Sound after ((layer_of p).runs) items

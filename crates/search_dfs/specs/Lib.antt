@@ -1,0 +1,13 @@
+pub mod Laws
+pub mod Search
+pub mod Below
+pub mod Setting
+pub mod Task
+pub mod Output
+pub mod Stack
+pub mod Turns
+pub mod Whole
+pub mod Explored
+pub mod Inserting
+pub mod Placing
+pub mod Lawful

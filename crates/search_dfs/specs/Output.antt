@@ -1,0 +1,64 @@
+-- What a search writes and counts.
+use Rattle.std.specs.Prelude.{ℕ, ◌+◌, ◌<◌, ◌≤◌, ◌≡◌, ◌⊎◌, ◌↔◌, ◌||◌, List, map, Option}
+use Rattle.cc_base.specs.declared.inputs.Test.{Test}
+use Rattle.cc_base.specs.Paths.{In, Pairwise}
+use Rattle.cc_model.specs.declared.terms.TermKind.{TermKind}
+use Rattle.cc_model.specs.declared.terms.TermKind.TheVariants.{Product, Quotient, Index, Wide}
+use Rattle.cc_model.specs.Tested.{Term}
+use Rattle.cc_model.specs.Listing.{Item, WasRun, count_by, is_test, is_run, is_spent, is_at_steps, is_stray, is_unrun}
+use Rattle.cc_model.specs.Report.{item_lines, has_fault}
+use Rattle.cc_outside.specs.Told.{appended, WritesPart}
+use Rattle.search_dfs.specs.declared.tally.FoundTerm.{FoundTerm}
+use Rattle.search_dfs.specs.declared.tally.Tally.{Tally}
+use Rattle.search_dfs.specs.Setting.{Setting, layer_of}
+
+abbrev pub Items : Type 0
+Items = List Item
+
+abbrev pub seen_term : FoundTerm → Term
+seen_term t = record { line = t.line; col = t.col; kind = t.kind }
+
+-- by line, then by column, then by the bytes of the kind
+abbrev pub rank_of : TermKind → ℕ
+rank_of Index = 0
+rank_of Product = 1
+rank_of Quotient = 2
+rank_of Wide = 3
+
+abbrev pub Comes : Term → Term → Type 0
+Comes a c = (a.line < c.line) ⊎ ((a.line ≡ c.line) × ((a.col < c.col) ⊎ ((a.col ≡ c.col) × (rank_of a.kind < rank_of c.kind))))
+
+-- the terms ascend
+abbrev pub InOrder : List FoundTerm → Type 0
+InOrder l = Pairwise Comes (map seen_term l)
+
+-- the bytes that were written, where they are told, the sink's faults, and the counts
+pub record Out : Type 0 where
+  pub bytes : Option (List ℕ)
+  pub faults : ℕ
+  pub tally : Tally
+
+abbrev pub out : Option (List ℕ) → ℕ → Tally → Out
+out b f t = record { bytes = b; faults = f; tally = t }
+
+-- the items were counted, and the terms of their runs are among those found
+pub record Tallied (p : Setting) (e : Items) (old new : Tally) : Type 0 where
+  pub paths : new.paths ≡ old.paths + count_by is_test e
+  pub runs : new.runs ≡ old.runs + count_by is_run e
+  pub spent : new.spent ≡ old.spent + count_by is_spent e
+  pub steps : new.steps ≡ old.steps + count_by is_at_steps e
+  pub strays : new.strays ≡ old.strays + count_by is_stray e
+  pub unrun : new.unrun ≡ old.unrun + count_by is_unrun e
+  pub fault : new.fault ≡ old.fault || has_fault e
+  pub terms : (x : Term) → In x (map seen_term (new.terms).items) ↔ (In x (map seen_term (old.terms).items) ⊎ ((t : Test) × WasRun t e × In x ((layer_of p).terms t.input)))
+  pub order : InOrder (old.terms).items → InOrder (new.terms).items
+
+-- the items are lines that were written, and they were counted
+pub record Wrote (p : Setting) (e : Items) (old new : Out) : Type 0 where
+  pub bytes : new.bytes ≡ appended old.bytes (item_lines e)
+  pub faults : old.faults ≤ new.faults
+  pub tally : Tallied p e old.tally new.tally
+
+-- a first part of their lines was written
+abbrev pub WroteSome : Setting → Items → Out → Out → Type 0
+WroteSome p e old new = WritesPart old.bytes new.bytes (item_lines e)

@@ -1,0 +1,85 @@
+-- What a search has from its start, what it writes, and what it counts.
+use Rattle.std.specs.Prelude.{ℕ, zero, suc, ◌+◌, ◌^◌, ◌<◌, ◌≤◌, ◌≡◌, ◌⊎◌, ◌↔◌, Bool, true, false, ◌||◌, List, [], ◌∷◌, ◌++◌, length, map, Option, Some, None, option_map, slice_get, unwrap_or, nat_eq, if◌then◌else◌, All}
+use Rattle.cc_base.specs.declared.ends.End.{End}
+use Rattle.cc_base.specs.declared.inputs.Input.{Input}
+use Rattle.cc_base.specs.declared.inputs.Test.{Test}
+use Rattle.cc_base.specs.declared.outcomes.Outcome.{Outcome}
+use Rattle.cc_base.specs.declared.outcomes.Outcome.TheVariants.{Zero}
+use Rattle.cc_base.specs.Limits.{Limits}
+use Rattle.cc_base.specs.Outcomes.{HasByte}
+use Rattle.cc_base.specs.Paths.{Path, In, Ascend, next}
+use Rattle.cc_model.specs.declared.checked.Checked.{Checked}
+use Rattle.cc_model.specs.declared.checked.Site.{Site}
+use Rattle.cc_model.specs.CheckedProgram.{core_of}
+use Rattle.cc_model.specs.Conditions.{layer}
+use Rattle.cc_model.specs.Tested.{Layer, Term, never, spent, turned}
+use Rattle.cc_model.specs.Listing.{Item, test_item, past_item, stray_item, spent_item, unrun_item, WasRun, TermBefore, count_by, is_test, is_run, is_spent, is_at_steps, is_stray, is_unrun}
+use Rattle.cc_model.specs.Report.{item_line, item_lines, has_fault}
+use Rattle.cc_laws.specs.LinearForms.{linear}
+use Rattle.cc_outside.specs.Told.{appended, WritesPart}
+use Rattle.search_dfs.specs.declared.below.Trace.{Trace}
+use Rattle.search_dfs.specs.declared.turning.Turned as answer
+use Rattle.search_dfs.specs.declared.turning.Turned.TheVariants as turn
+use Rattle.search_dfs.specs.Below.{Tells, column_in}
+
+-- a checked program, the bounds and the budget of a solve
+pub record Setting : Type 0 where
+  pub checked : Checked
+  pub limits : Limits
+  pub budget : ℕ
+
+abbrev pub setting : Checked → Limits → ℕ → Setting
+setting c b n = record { checked = c; limits = b; budget = n }
+
+-- the tested function with what its traced runs tell
+unfoldable pub layer_of : Setting → Layer
+layer_of s = layer linear (core_of s.checked) s.limits (column_in s.checked.sites) s.budget
+
+-- the outcome number k
+abbrev pub own_at : ℕ → Path → Outcome
+own_at k [] = Zero
+own_at zero (o ∷ p) = o
+own_at (suc k) (o ∷ p) = own_at k p
+
+-- the outcomes of event k: the run's own and the alternatives, ascending
+pub record ChoicesOf (s : Setting) (i : Input) (k : ℕ) (os : List Outcome) : Type 0 where
+  pub ascend : Ascend os
+  pub all : (o : Outcome) → In o os ↔ ((o ≡ own_at k (((layer_of s).runs).path i)) ⊎ In o ((layer_of s).others i k))
+  pub few : length os ≤ 29
+
+-- a run within the bounds, with its path
+pub record TraceOf (s : Setting) (t : Trace) (p : Path) : Type 0 where
+  pub within : ((layer_of s).runs).IsWithin t.input
+  pub trace : Tells s.checked s.limits t.input t
+  pub path : p ≡ ((layer_of s).runs).path t.input
+  pub end : t.end ≡ ((layer_of s).runs).end t.input
+  pub short : length p ≤ s.limits.depth
+  pub few : s.limits.depth ≤ 1024
+  pub bytes : All HasByte p
+
+-- what a solve answers at a prefix
+abbrev pub Answered : Setting → Input → Path → answer.Turned → Type 0
+Answered s u q turn.Never = (layer_of s).Answers u q never
+Answered s u q turn.Spent = (layer_of s).Answers u q spent
+Answered s u q (turn.Turned i) = (layer_of s).Answers u q turned × ((layer_of s).runs).IsWithin i × (layer_of s).Meets u q i
+
+abbrev pub base_of : Setting → Input
+base_of s = ((layer_of s).runs).base
+
+abbrev pub path_of : Setting → Input → Path
+path_of s i = ((layer_of s).runs).path i
+
+abbrev pub within_of : Setting → Input → Type 0
+within_of s i = ((layer_of s).runs).IsWithin i
+
+abbrev pub others_of : Setting → Input → ℕ → List Outcome
+others_of s i k = (layer_of s).others i k
+
+abbrev pub meets_of : Setting → Input → Path → Input → Type 0
+meets_of s u q i = (layer_of s).Meets u q i
+
+-- an input that was solved for has fewer than 10^18 cells
+abbrev pub HasFewCells : answer.Turned → Type 0
+HasFewCells turn.Never = Unit {0}
+HasFewCells turn.Spent = Unit {0}
+HasFewCells (turn.Turned i) = length i.cells < 10 ^ 18

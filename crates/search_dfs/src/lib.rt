@@ -1,0 +1,18 @@
+//! The depth-first search of the paths of a tested function.
+#![tactic(auto)]
+
+mod below;
+mod fault;
+mod laws;
+mod lines;
+mod listed;
+mod open;
+mod order;
+mod runs;
+mod search;
+mod tally;
+mod task;
+mod turning;
+
+pub use fault::SearchFault;
+pub use search::{Summary, explore};

@@ -1,0 +1,107 @@
+//! The runs that a search keeps.
+
+ghost use Rattle.std.specs.Prelude.{◌≡◌, ◌<◌, ◌≤◌, ◌⊎◌, ◌↔◌, ◌∷◌, List, length, map, IfOk};
+ghost use Rattle.cc_base.specs.declared.outcomes.Outcome.{Outcome as PlainOutcome};
+ghost use Rattle.cc_base.specs.Outcomes.{byte_of};
+ghost use Rattle.cc_base.specs.Paths.{In, Ascend};
+ghost use Rattle.search_dfs.specs.declared.open.Pending.{Pending as Kept};
+ghost use Rattle.search_dfs.specs.Below.{OffersFew, outcome_at, others_at};
+ghost use Rattle.search_dfs.specs.Inserting.{IsPlace};
+ghost use Rattle.search_dfs.specs.Setting.{TraceOf, ChoicesOf, own_at, within_of};
+ghost use Rattle.search_dfs.specs.Stack.{last_first, left_at};
+ghost use Rattle.search_dfs.specs.Task.{setting_of, Known};
+
+use crate::below::{Choice, Event, run};
+use crate::open::Pending;
+use crate::order::byte;
+use crate::task::Task;
+use cc_model::base::{Input, Items, NoMemory, Outcome};
+use std::alloc::Global;
+
+/// The last run.
+pub(crate) fn last_run(runs: &Items<Pending>) -> &Pending
+    requires { 0 < length runs.now }
+    ensures { (r : Kept) (rs : List Kept) → last_first runs.now ≡ r ∷ rs → result.now ≡ r }
+{
+    let last = runs.len() - 1;
+    &runs.as_slice()[last]
+}
+
+/// The run's outcome at event k.
+pub(crate) fn own_outcome(run: &Pending, k: u32) -> Outcome
+    requires { k < length (run.now).path }
+    ensures { result ≡ own_at k (run.now).path }
+{
+    run.path.as_slice()[k as usize]
+}
+
+/// Drops the last run where it was entered at this depth.
+pub(crate) fn leave(runs: &mut Items<Pending>, depth: u32)
+    requires { 0 < length runs.old }
+    ensures { (r : Kept) (rs : List Kept) → last_first runs.old ≡ r ∷ rs → last_first runs.new ≡ left_at depth (r ∷ rs) }
+{
+    let last = runs.len() - 1;
+    if runs.as_slice()[last].from == depth {
+        let _run = runs.pop();
+    }
+}
+
+/// The outcomes of choices.
+fn outcomes(alloc: Global, choices: &[Choice]) -> Result<Vec<Outcome>, NoMemory>
+    ensures { IfOk result (λ v. v.items ≡ map (λ c. c.outcome) choices.now) }
+{
+    let mut outcomes = Vec::new(alloc);
+    for choice in choices {
+        outcomes.push(choice.outcome)?;
+    }
+    Ok(outcomes)
+}
+
+/// The place of an outcome among outcomes that ascend.
+fn place_of(outcomes: &[Outcome], own: Outcome) -> usize
+    ensures { IsPlace (λ x. byte_of x < byte_of own) outcomes.now result }
+{
+    for i in 0..outcomes.len() {
+        if byte(outcomes[i]) >= byte(own) {
+            return i;
+        }
+    }
+    outcomes.len()
+}
+
+/// An event's own outcome and the alternatives, ascending.
+fn all_outcomes(alloc: Global, event: &Event) -> Result<Items<Outcome>, NoMemory>
+    requires { OffersFew event.now }
+    ensures ascend { IfOk result Ascend }
+    ensures all { IfOk result (λ v. (o : PlainOutcome) → In o v ↔ ((o ≡ outcome_at event.now) ⊎ In o (others_at event.now))) }
+    ensures few { IfOk result (λ v. length v ≤ 29) }
+{
+    let mut all = outcomes(alloc, event.others.as_slice())?;
+    let at = place_of(all.as_slice(), event.taken.outcome);
+    all.insert(at, event.taken.outcome)?;
+    Ok(Items::from_vec(all))
+}
+
+/// The outcomes of event k of a run: its own and the alternatives, ascending.
+pub(crate) fn choices_of(task: &Task<'_>, run: &Pending, k: u32) -> Result<Items<Outcome>, NoMemory>
+    requires trace { TraceOf (setting_of task.now) (run.now).trace (run.now).path }
+    requires event { k < length (run.now).path }
+    ensures { IfOk result (λ v. ChoicesOf (setting_of task.now) ((run.now).trace).input k v) }
+{
+    let all = all_outcomes(task.alloc, &run.trace.events.as_slice()[k as usize])?;
+    Ok(all)
+}
+
+/// A new run on an input, entered at this depth.
+pub(crate) fn made_run(task: &Task<'_>, input: &Input, from: u32) -> Result<Pending, NoMemory>
+    requires known { Known task.now }
+    requires within { within_of (setting_of task.now) input.now }
+    ensures trace { IfOk result (λ r. TraceOf (setting_of task.now) r.trace r.path) }
+    ensures input { IfOk result (λ r. (r.trace).input ≡ input.now) }
+    ensures from { IfOk result (λ r. r.from ≡ from) }
+{
+    let _depth = task.bounds.depth();
+    let trace = run(task.alloc, task.checked, task.tac, input, task.bounds)?;
+    let path = trace.path(task.alloc)?;
+    Ok(Pending { trace, path, from })
+}

@@ -1,0 +1,161 @@
+//! The depth-first search as a whole.
+
+ghost use Rattle.std.specs.Prelude.{◌≡◌, ◌≤◌, IfOk, OnOk, OnErr, IfErr, map, option_map};
+ghost use Rattle.cc_model.specs.CheckedProgram.{core_of};
+ghost use Rattle.cc_model.specs.Graphs.{PointsToCells};
+ghost use Rattle.cc_model.specs.Report.{term_line, term_lines};
+ghost use Rattle.cc_model.specs.Runs.{params_of};
+ghost use Rattle.cc_outside.specs.Told.{appended, WritesPart};
+ghost use Rattle.search_dfs.specs.declared.open.Pending.{Pending as Kept};
+ghost use Rattle.search_dfs.specs.Explored.{Explored, ExploredSome, Counted};
+ghost use Rattle.search_dfs.specs.Output.{seen_term, out as told};
+ghost use Rattle.search_dfs.specs.Setting.{setting, within_of, base_of};
+ghost use Rattle.search_dfs.specs.Task.{setting_of, after_of, Known};
+ghost use Rattle.search_dfs.specs.Turns.{Begins, SinkCause};
+ghost use Rattle.search_dfs.specs.Whole.{Listed_whole, Listed_part};
+
+use crate::below::Tac;
+use crate::fault::SearchFault;
+use crate::laws::laws_hold;
+use crate::lines::{term_line, write_line};
+use crate::open::Open;
+use crate::runs::made_run;
+use crate::tally::{FoundTerm, Tally};
+use crate::task::Task;
+use crate::turning::lawful;
+use cc_model::Checked;
+use cc_model::base::{Bounds, Input, Items, NoMemory, PathText};
+use cc_outside::Sink;
+use input_map::base_input;
+use path_tree::Tree;
+use std::alloc::Global;
+
+/// The counts of a finished search: its tests, its runs, its terms, the prefixes whose solve passed the budget, the tests that the
+/// bound on steps ended, the runs that left their prediction, the inputs that were not run, and whether a test or stray run ended
+/// as a fault.
+#[derive(Clone, Copy, Debug, PartialEq, Eq)]
+pub struct Summary {
+    pub paths: u64,
+    pub runs: u64,
+    pub terms: u64,
+    pub spent: u64,
+    pub steps: u64,
+    pub strays: u64,
+    pub unrun: u64,
+    pub fault: bool,
+}
+
+/// The start of a search: the base run is to be gone into.
+fn begin(task: &Task<'_>, base: &Input) -> Result<Open, NoMemory>
+    requires known { Known task.now }
+    requires within { within_of (setting_of task.now) base.now }
+    requires base { base.now ≡ base_of (setting_of task.now) }
+    ensures { IfOk result (λ b. (v : Kept) × Begins (setting_of task.now) b v) }
+{
+    let first = made_run(task, base, 0)?;
+    let tree = Tree::new(task.alloc, task.bounds.depth())?;
+    let mut runs = Items::new(task.alloc);
+    runs.push(first)?;
+    Ok(Open {
+        tree,
+        depth: 0,
+        runs,
+        made: 1,
+        stopped: false,
+    })
+}
+
+/// Searches from the base input on, and writes the keyed lines.
+fn search_all<K: Sink>(task: &Task<'_>, sink: &mut K, tally: &mut Tally) -> Result<(), SearchFault>
+    requires known { Known task.now }
+    requires runs { 1 ≤ task.now.limit }
+    ensures ok { OnOk result (Listed_whole (setting_of task.now) (after_of task.now) task.now.limit (told (K.written sink.old) (K.faults sink.old) tally.old) (told (K.written sink.new) (K.faults sink.new) tally.new)) }
+    ensures err { OnErr result (Listed_part (setting_of task.now) (after_of task.now) task.now.limit (told (K.written sink.old) (K.faults sink.old) tally.old) (told (K.written sink.new) (K.faults sink.new) tally.new)) }
+    ensures sink { IfErr result (λ e. SinkCause (K.faults sink.old) (K.faults sink.new) e) }
+{
+    laws_hold(task);
+    let base = base_input(task.alloc, task.checked, task.bounds)?;
+    let mut open = begin(task, &base)?;
+    open.go_down(task, sink, tally)?;
+    'turns: while open.depth > 0 {
+        open.step(task, sink, tally)?;
+    }
+    Ok(())
+}
+
+/// Writes the line of a term.
+fn write_term<K: Sink>(alloc: Global, term: FoundTerm, sink: &mut K) -> Result<(), SearchFault>
+    ensures ok { OnOk result (K.written sink.new ≡ appended (K.written sink.old) (term_line (seen_term term))) }
+    ensures part { OnErr result (WritesPart (K.written sink.old) (K.written sink.new) (term_line (seen_term term))) }
+    ensures sink { IfErr result (λ e. SinkCause (K.faults sink.old) (K.faults sink.new) e) }
+    ensures never_falls { K.faults sink.old ≤ K.faults sink.new }
+{
+    match term_line(alloc, term) {
+        Ok(line) => write_line(sink, &line),
+        Err(NoMemory) => Err(SearchFault::NoMemory),
+    }
+}
+
+/// Writes the lines of terms, each by a write of its own.
+fn write_terms<K: Sink>(alloc: Global, terms: &[FoundTerm], sink: &mut K) -> Result<(), SearchFault>
+    ensures ok { OnOk result (K.written sink.new ≡ appended (K.written sink.old) (term_lines (map seen_term terms.now))) }
+    ensures part { OnErr result (WritesPart (K.written sink.old) (K.written sink.new) (term_lines (map seen_term terms.now))) }
+    ensures sink { IfErr result (λ e. SinkCause (K.faults sink.old) (K.faults sink.new) e) }
+    ensures never_falls { K.faults sink.old ≤ K.faults sink.new }
+{
+    for term in terms {
+        write_term(alloc, *term, sink)?;
+    }
+    Ok(())
+}
+
+/// What was counted.
+fn summed(tally: &Tally) -> Summary
+    ensures { Counted tally.now result }
+{
+    Summary {
+        paths: tally.paths,
+        runs: tally.runs,
+        terms: tally.terms.len() as u64,
+        spent: tally.spent,
+        steps: tally.steps,
+        strays: tally.strays,
+        unrun: tally.unrun,
+        fault: tally.fault,
+    }
+}
+
+/// Searches the paths of a checked program's tested function depth first, with at most `runs` runs and a budget for each group of
+/// a solve, above the path `after` where one is given. It writes the keyed lines, each as soon as no smaller key can come, and
+/// then the lines of the terms. Sink only where the sink's faults rose; what was written by then is a first part of such lines.
+pub fn explore<K: Sink>(
+    alloc: Global,
+    checked: &Checked,
+    tac: &Tac,
+    bounds: &Bounds,
+    runs: u32,
+    budget: u64,
+    after: Option<&PathText>,
+    out: &mut K,
+) -> Result<Summary, SearchFault>
+    requires points { PointsToCells (core_of checked.now).layouts (params_of (core_of checked.now)) }
+    requires runs { 1 ≤ runs }
+    ensures explored { IfOk result (λ s. Explored (setting checked.now bounds.now budget) (option_map (λ r. r.now) after.entry) runs (K.written out.old) (K.written out.new) s) }
+    ensures some { OnErr result (ExploredSome (setting checked.now bounds.now budget) (option_map (λ r. r.now) after.entry) (K.written out.old) (K.written out.new)) }
+    ensures sink { IfErr result (λ e. SinkCause (K.faults out.old) (K.faults out.new) e) }
+{
+    let task = Task {
+        alloc,
+        checked,
+        tac,
+        bounds,
+        limit: runs,
+        budget,
+        after,
+    };
+    lawful(checked, tac, bounds)?;
+    let mut tally = Tally::new(alloc);
+    search_all(&task, out, &mut tally)?;
+    write_terms(alloc, tally.terms.as_slice(), out)?;
+    Ok(summed(&tally))
+}

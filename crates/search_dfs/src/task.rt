@@ -1,0 +1,18 @@
+//! What a search has from its start.
+
+use crate::below::Tac;
+use cc_model::Checked;
+use cc_model::base::{Bounds, PathText};
+use std::alloc::Global;
+
+/// What a search has from its start: how many runs may be made, the budget of a solve, and the path after which it goes on.
+#[derive(Clone, Copy)]
+pub struct Task<'a> {
+    pub alloc: Global,
+    pub checked: &'a Checked,
+    pub tac: &'a Tac,
+    pub bounds: &'a Bounds,
+    pub limit: u32,
+    pub budget: u64,
+    pub after: Option<&'a PathText>,
+}

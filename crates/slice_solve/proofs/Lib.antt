@@ -1,0 +1,4 @@
+mod Joining
+mod Carried
+mod Steps
+mod LinearSteps

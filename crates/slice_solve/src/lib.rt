@@ -1,0 +1,10 @@
+//! The slice of an alternative, solved.
+#![tactic(auto)]
+
+pub mod joins;
+pub mod linear;
+pub mod slice;
+#[cfg(test)]
+mod tests;
+
+pub use slice::solve_slice;
