@@ -31,18 +31,18 @@ byte_tells out.True out.True h = refl
 byte_tells (out.Object n) (out.Object m) h = ap out.Object (omega arith)
 byte_tells _ _ h = absurd (omega (arith, h))
 
-take_begins : (p q : Path) → BeginsWith p q → take (length q) p ≡ q
+pub take_begins : (p q : Path) → BeginsWith p q → take (length q) p ≡ q
 take_begins p [] h = refl
 take_begins [] (o ∷ q) h = absurd (cc h.1)
 take_begins (a ∷ p) (o ∷ q) h = let e : a ≡ o = cc h.1 in let f : p ≡ q ++ h.0 = cc h.1 in ap₂ (λ x m. x ∷ m) e (take_begins p q (h.0, f))
 
-next_at : (p q : Path) (o : Outcome) → BeginsWith p (next q o) → slice_get p (length q) ≡ Some o
+pub next_at : (p q : Path) (o : Outcome) → BeginsWith p (next q o) → slice_get p (length q) ≡ Some o
 next_at [] [] o h = absurd (cc h.1)
 next_at (a ∷ p) [] o h = let e : a ≡ o = cc h.1 in ap Some e
 next_at [] (x ∷ q) o h = absurd (cc h.1)
 next_at (a ∷ p) (x ∷ q) o h = let f : p ≡ next q o ++ h.0 = cc h.1 in next_at p q o (h.0, f)
 
-at_next : (p q : Path) (o : Outcome) → take (length q) p ≡ q → slice_get p (length q) ≡ Some o → BeginsWith p (next q o)
+pub at_next : (p q : Path) (o : Outcome) → take (length q) p ≡ q → slice_get p (length q) ≡ Some o → BeginsWith p (next q o)
 at_next [] [] o e f = absurd (cc f)
 at_next (a ∷ p) [] o e f = (p, ap (λ x. x ∷ p) (some_same a o f))
 at_next [] (x ∷ q) o e f = absurd (cc e)
@@ -96,7 +96,7 @@ chosen o (c ∷ cs) i = elim (outcome_tells c.outcome o) [
 abbrev Log : Type 0
 Log = List (Entry Event)
 
-last_there : (l : Log) (q : Path) (o : Outcome) (a : Entry Event) → slice_get l (length q) ≡ Some a → last_atoms (next q o) l ≡ atoms_of o (alternatives a.event)
+pub last_there : (l : Log) (q : Path) (o : Outcome) (a : Entry Event) → slice_get l (length q) ≡ Some a → last_atoms (next q o) l ≡ atoms_of o (alternatives a.event)
 unfolding last_atoms
 last_there [] q o a e = absurd (cc e)
 last_there (x ∷ l) [] o a e = ap (λ y. atoms_of o (alternatives y.event)) (some_same x a e)
@@ -104,7 +104,7 @@ last_there (x ∷ l) (y ∷ []) o a e = last_there l [] o a e
 last_there (x ∷ l) (y ∷ z ∷ q) o a e = last_there l (z ∷ q) o a e
 
 -- the condition at a prefix is that before its last outcome, and the last outcome's atoms
-parted : (l : Log) (q : Path) (o : Outcome) → condition_at (next q o) l ≡ condition (length q) l ++ last_atoms (next q o) l
+pub parted : (l : Log) (q : Path) (o : Outcome) → condition_at (next q o) l ≡ condition (length q) l ++ last_atoms (next q o) l
 unfolding condition_at condition last_atoms
 parted [] [] o = refl
 parted [] (y ∷ q) o = refl
@@ -113,7 +113,7 @@ parted (x ∷ l) (y ∷ []) o = ap (λ m. taken x.event ++ m) (parted l [] o) �
 parted (x ∷ l) (y ∷ z ∷ q) o = ap (λ m. taken x.event ++ m) (parted l (z ∷ q) o) ∙ sym (append_assoc (taken x.event) (condition (suc (length q)) l) (last_atoms (z ∷ next q o) l))
 
 -- the event of the first term has no alternatives
-none_at_term : (l : Log) (a : Entry Event) → slice_get l (clean l) ≡ Some a → alternatives a.event ≡ []
+pub none_at_term : (l : Log) (a : Entry Event) → slice_get l (clean l) ≡ Some a → alternatives a.event ≡ []
 unfolding clean alternatives
 none_at_term [] a e = absurd (cc e)
 none_at_term (x ∷ l) a e = by (x.event).asked refl e (none_at_term l a)

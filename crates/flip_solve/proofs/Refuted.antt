@@ -86,7 +86,7 @@ group_inside l g i = elim (in_either g _ (placeless l) i) [
 
 -- ---- places
 
-put_in : (x y : ℕ) (l : List ℕ) → In y (put x l) → (y ≡ x) ⊎ In y l
+pub put_in : (x y : ℕ) (l : List ℕ) → In y (put x l) → (y ≡ x) ⊎ In y l
 unfolding put
 put_in x y l i = kept (contains l x) i
   where

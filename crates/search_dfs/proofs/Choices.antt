@@ -8,15 +8,17 @@ use Rattle.cc_base.specs.Outcomes.{byte_of, HasByte}
 use Rattle.cc_base.specs.Paths.{In, Path, Ascend, next}
 use Rattle.cc_model.specs.Canonical.{base_input_of}
 use Rattle.cc_model.specs.CheckedProgram.{core_of}
-use Rattle.cc_model.specs.Runs.{IsInput, params_of, path_at}
-use Rattle.search_dfs.specs.declared.below.Event.{Event}
-use Rattle.search_dfs.specs.declared.below.Trace.{Trace}
+use Rattle.cc_model.specs.Runs.{IsInput, params_of, path_at, end_at}
+use Rattle.sym_run.specs.declared.trace.Event.{Event}
+use Rattle.sym_run.specs.declared.trace.Trace.{Trace}
 use Rattle.search_dfs.specs.declared.open.Pending.{Pending}
-use Rattle.search_dfs.specs.Below.{Tells, OffersFew, outcome_at, others_at}
+use Rattle.sym_run.specs.Traces.{IsTrace, OffersFew, outcome_at, others_at}
+use Rattle.search_dfs.specs.Below.{Tells}
 use Rattle.search_dfs.specs.Inserting.{IsPlace}
 use Rattle.search_dfs.specs.Setting.{Setting, layer_of, TraceOf, ChoicesOf, own_at, within_of, others_of, path_of, base_of}
 use Rattle.search_dfs.specs.Stack.{last_first, left_at}
 use Rattle.std.proofs.lemmas.List.Elements.{All-nil, All-cons, All-append, All-take}
+use Rattle.search_dfs.proofs.Telling.{tells}
 use Rattle.search_dfs.proofs.Down.{last_is, snoc_first, left_same, left_more}
 use Rattle.search_dfs.proofs.Inserting.{ascends, in_inserted}
 use Rattle.search_dfs.proofs.Paths.{order_of, byte_tells}
@@ -96,19 +98,22 @@ module _ (s : Setting) where
           few = few;
         }
 
-  pub made_trace : (i : Input) (t : Trace) (p : Path) → within_of s i → Tells s.checked s.limits i t → length t.events ≤ s.limits.depth → p ≡ map outcome_at t.events → InRange s.limits → TraceOf s t p
-  unfolding layer_of
-  made_trace i t p w tells short e range =
-      let here : Tells s.checked s.limits t.input t = subst (λ h. Tells s.checked s.limits h t) (sym tells.input) tells in
-      record {
-        within = subst (within_of s) (sym tells.input) w;
-        trace = here;
-        path = e ∙ here.path;
-        end = here.end;
-        short = let n = map_long outcome_at t.events in let m : length p ≡ length (map outcome_at t.events) = ap length e in omega (arith, n, m, short);
-        few = range.depth_high;
-        bytes = subst (All HasByte) (sym e) here.bytes;
-      }
+  module _ (i : Input) (t : Trace) (p : Path) (it : IsTrace s.checked s.limits i t) (path : p ≡ path_at (core_of s.checked) s.limits i) (e : p ≡ map outcome_at t.events) (end : t.end ≡ end_at (core_of s.checked) s.limits i)
+      (few : (k : ℕ) (x : Event) → slice_get t.events k ≡ Some x → OffersFew x) (bytes : All HasByte (map outcome_at t.events)) where
+    pub made_trace : within_of s i → length t.events ≤ s.limits.depth → InRange s.limits → TraceOf s t p
+    unfolding layer_of
+    made_trace w short range =
+        let told : Tells s.checked s.limits t.input t = subst (λ h. Tells s.checked s.limits h t) (sym it.input) (tells s.checked s.limits i t it (sym e ∙ path) end few bytes) in
+        record {
+          within = subst (within_of s) (sym it.input) w;
+          is_trace = subst (λ h. IsTrace s.checked s.limits h t) (sym it.input) it;
+          trace = told;
+          path = e ∙ told.path;
+          end = told.end;
+          short = let n = map_long outcome_at t.events in let m : length p ≡ length (map outcome_at t.events) = ap length e in omega (arith, n, m, short);
+          few = range.depth_high;
+          bytes = subst (All HasByte) (sym e) told.bytes;
+        }
 
 -- ---- the last run
 
@@ -149,7 +154,7 @@ module _ (s : Setting) where
     -- the prefix of an alternative has bytes
     pub prefix_bytes : All HasByte (next (take k p) o)
     prefix_bytes = let e = event_offered in
-        All-append HasByte (take k p) (o ∷ []) (All-take HasByte k p tr.bytes) (All-cons HasByte o [] ((tr.trace).other_bytes k e.0 e.1 o e.2) (All-nil HasByte))
+        All-append HasByte (take k p) (o ∷ []) (All-take HasByte k p tr.bytes) (All-cons HasByte o [] (((tr.trace).few k e.0 e.1).bytes o e.2) (All-nil HasByte))
 
 module _ (s : Setting) (i : Input) where
   pub input_within : IsInput (core_of s.checked) s.limits i → within_of s i

@@ -1,65 +1,29 @@
 -- The tested function with its traced runs keeps the laws of the search.
-use Rattle.std.proofs.Common.{◌≡◌, ◌≢◌, ℕ, zero, suc, ◌-◌, ◌<◌, ◌≤◌, ℤ, ◌≤ℤ◌, Bool, true, false, ◌⊎◌, inl, inr, List, [], ◌∷◌, ◌++◌, length, map, take, Option, Some, None, refl, sym, ap, ap₂, ◌∙◌, subst, arith, append_assoc, slice_get, nat_eq, if◌then◌else◌}
+use Rattle.std.proofs.Common.{◌≡◌, ◌≢◌, ℕ, zero, suc, ◌-◌, ◌<◌, ◌≤◌, ℤ, ◌≤ℤ◌, ◌⊎◌, inl, inr, List, [], ◌∷◌, length, take, Option, Some, refl, sym, ap, ◌∙◌, subst, arith, slice_get, if◌then◌else◌}
 use Rattle.std.proofs.lemmas.Bool.Decides.{eqb_tells}
 use Rattle.cc_base.specs.declared.inputs.Input.{Input}
 use Rattle.cc_base.specs.declared.outcomes.Outcome.{Outcome}
-use Rattle.cc_base.specs.Forms.{Atom}
 use Rattle.cc_base.specs.Holds.{Meets}
 use Rattle.cc_base.specs.Limits.{Limits}
-use Rattle.cc_base.specs.Outcomes.{byte_of}
 use Rattle.cc_base.specs.Paths.{Path, In, next, BeginsWith, GoesOnFrom}
-use Rattle.cc_model.specs.declared.terms.TermKind.{TermKind}
 use Rattle.cc_model.specs.Canonical.{base_input_of}
 use Rattle.cc_model.specs.Core.{Program}
 use Rattle.cc_model.specs.Meaning.{Entry}
 use Rattle.cc_model.specs.Runs.{IsInput, params_of, path_of, path_at}
 use Rattle.cc_model.specs.FormOperations.{Forms}
 use Rattle.cc_model.specs.Traced.{Choice, Asked, asks_nothing, one_of, term, Event, traced}
-use Rattle.cc_model.specs.Conditions.{same_outcome, atoms_of, without, taken, alternatives, outcomes_of, condition, condition_at, last_atoms, alternatives_at, clean, terms, events_of, values_at, layer}
+use Rattle.cc_model.specs.Conditions.{without, taken, alternatives, outcomes_of, condition, condition_at, last_atoms, alternatives_at, clean, terms, events_of, values_at, layer}
 use Rattle.cc_model.specs.Exact.{Exact, Exhausts, Told}
 use Rattle.cc_model.specs.Tested.{Layer, Term, never, Offers}
 use Rattle.search_dfs.specs.Laws.{Laws}
-use Rattle.search_dfs.proofs.Paths.{byte_tells, append_nil, next_append, length_next, begins_next, in_either}
+use Rattle.search_dfs.proofs.Paths.{append_nil, length_next, begins_next, in_either}
 use Rattle.cc_model.specs.Answers.{HasNoInput}
 use Rattle.sym_expr.proofs.AtomLaws.{Meets-append, Meets-front, Meets-back}
-use Rattle.search_dfs.proofs.Refuted.{InRange, some_input, got_in}
-
--- ---- first outcomes of a path
-
-take_begins : (p q : Path) → BeginsWith p q → take (length q) p ≡ q
-take_begins p [] h = refl
-take_begins [] (o ∷ q) h = absurd (cc h.1)
-take_begins (a ∷ p) (o ∷ q) h = let e : a ≡ o = cc h.1 in let f : p ≡ q ++ h.0 = cc h.1 in ap₂ (λ x m. x ∷ m) e (take_begins p q (h.0, f))
-
-next_at : (p q : Path) (o : Outcome) → BeginsWith p (next q o) → slice_get p (length q) ≡ Some o
-next_at [] [] o h = absurd (cc h.1)
-next_at (a ∷ p) [] o h = let e : a ≡ o = cc h.1 in ap Some e
-next_at [] (x ∷ q) o h = absurd (cc h.1)
-next_at (a ∷ p) (x ∷ q) o h = let f : p ≡ next q o ++ h.0 = cc h.1 in next_at p q o (h.0, f)
-
-at_next : (p q : Path) (o : Outcome) → take (length q) p ≡ q → slice_get p (length q) ≡ Some o → BeginsWith p (next q o)
-at_next [] [] o e f = absurd (cc f)
-at_next (a ∷ p) [] o e f = (p, ap (λ x. x ∷ p) (same_some a o f))
-  where
-    same_some : (a o : Outcome) → Some a ≡ Some o → a ≡ o
-    same_some a o e = cc e
-at_next [] (x ∷ q) o e f = absurd (cc e)
-at_next (a ∷ p) (x ∷ q) o e f = let g : a ≡ x = cc e in let h : take (length q) p ≡ q = cc e in let r = at_next p q o h f in (r.0, ap₂ (λ y m. y ∷ m) g r.1)
-
-some_same : {A : Type 0} → (a c : A) → Some a ≡ Some c → a ≡ c
-some_same a c e = cc e
+use Rattle.flip_solve.proofs.Members.{some_same, got_in}
+use Rattle.flip_solve.proofs.Prefixes.{take_begins, next_at, at_next, outcome_tells, outcomes, chosen, last_there, parted, none_at_term}
+use Rattle.flip_solve.proofs.Refuted.{InRange, some_input}
 
 -- ---- choices
-
-outcome_tells : (o p : Outcome) → ((same_outcome o p ≡ true) × (o ≡ p)) ⊎ ((same_outcome o p ≡ false) × (o ≢ p))
-unfolding same_outcome
-outcome_tells o p = elim (eqb_tells (byte_of o) (byte_of p)) [
-  | inl q ↦ inl (q.0, byte_tells o p q.1)
-  | inr q ↦ inr (q.0, λ e. q.1 (ap byte_of e))
-]
-
-abbrev outcomes : List Choice → List Outcome
-outcomes cs = map (λ c. c.outcome) cs
 
 without_other : (own o : Outcome) (cs : List Choice) → In o (outcomes (without own cs)) → o ≢ own
 unfolding without
@@ -81,22 +45,6 @@ alternative_other e o i = by e.asked i
     by (one_of cs) j = without_other e.outcome o cs j
     by asks_nothing j = absurd j
     by (term k) j = absurd j
-
--- the choice of an outcome, with its atoms
-chosen : (o : Outcome) (cs : List Choice) → In o (outcomes cs) → (c : Choice) × In c cs × (c.outcome ≡ o) × (c.atoms ≡ atoms_of o cs)
-unfolding atoms_of
-chosen o [] i = absurd i
-chosen o (c ∷ cs) i = elim (outcome_tells c.outcome o) [
-  | inl q ↦ (c, inl refl, q.1, sym (ap (λ b. if b then c.atoms else atoms_of o cs) q.0))
-  | inr q ↦ later q.0 (chosen o cs (rest q.1 i))
-]
-  where
-    rest : c.outcome ≢ o → In o (outcomes (c ∷ cs)) → In o (outcomes cs)
-    rest n (inl e) = absurd (n (sym e))
-    rest n (inr j) = j
-
-    later : same_outcome c.outcome o ≡ false → ((d : Choice) × In d cs × (d.outcome ≡ o) × (d.atoms ≡ atoms_of o cs)) → (d : Choice) × In d (c ∷ cs) × (d.outcome ≡ o) × (d.atoms ≡ (if same_outcome c.outcome o then c.atoms else atoms_of o cs))
-    later q r = (r.0, inr r.1, r.2, r.3 ∙ sym (ap (λ b. if b then c.atoms else atoms_of o cs) q))
 
 outcome_in : (c : Choice) (cs : List Choice) → In c cs → In c.outcome (outcomes cs)
 outcome_in c [] i = absurd i
@@ -120,33 +68,6 @@ unfolding alternatives_at
 alternatives_there [] k a e = absurd (cc e)
 alternatives_there (x ∷ l) zero a e = ap (λ y. alternatives y.event) (some_same x a e)
 alternatives_there (x ∷ l) (suc k) a e = alternatives_there l k a e
-
-last_there : (l : Log) (q : Path) (o : Outcome) (a : Entry Event) → slice_get l (length q) ≡ Some a → last_atoms (next q o) l ≡ atoms_of o (alternatives a.event)
-unfolding last_atoms
-last_there [] q o a e = absurd (cc e)
-last_there (x ∷ l) [] o a e = ap (λ y. atoms_of o (alternatives y.event)) (some_same x a e)
-last_there (x ∷ l) (y ∷ []) o a e = last_there l [] o a e
-last_there (x ∷ l) (y ∷ z ∷ q) o a e = last_there l (z ∷ q) o a e
-
--- the condition at a prefix is that before its last outcome, and the last outcome's atoms
-parted : (l : Log) (q : Path) (o : Outcome) → condition_at (next q o) l ≡ condition (length q) l ++ last_atoms (next q o) l
-unfolding condition_at condition last_atoms
-parted [] [] o = refl
-parted [] (y ∷ q) o = refl
-parted (x ∷ l) [] o = refl
-parted (x ∷ l) (y ∷ []) o = ap (λ m. taken x.event ++ m) (parted l [] o) ∙ sym (append_assoc (taken x.event) (condition 0 l) (last_atoms (o ∷ []) l))
-parted (x ∷ l) (y ∷ z ∷ q) o = ap (λ m. taken x.event ++ m) (parted l (z ∷ q) o) ∙ sym (append_assoc (taken x.event) (condition (suc (length q)) l) (last_atoms (z ∷ next q o) l))
-
--- the event of the first term has no alternatives
-none_at_term : (l : Log) (a : Entry Event) → slice_get l (clean l) ≡ Some a → alternatives a.event ≡ []
-unfolding clean alternatives
-none_at_term [] a e = absurd (cc e)
-none_at_term (x ∷ l) a e = by (x.event).asked refl e (none_at_term l a)
-  where
-    by : (s : Asked) → (x.event).asked ≡ s → slice_get (x ∷ l) (elim s [ term k ↦ 0 | _ ↦ suc (clean l) ]) ≡ Some a → (slice_get l (clean l) ≡ Some a → alternatives a.event ≡ []) → alternatives a.event ≡ []
-    by (term k) q f rest = subst (λ (y : Entry Event). alternatives y.event ≡ []) (some_same x a f) (ap (λ s. elim s [ one_of cs ↦ without (x.event).outcome cs | _ ↦ [] ]) q)
-    by (one_of cs) q f rest = rest f
-    by asks_nothing q f rest = rest f
 
 abbrev with_term : (ℕ → ℕ) → (ℕ → ℕ) → Entry Event → Asked → List Term → List Term
 with_term line column x s rest = elim s [ term k ↦ record { line = line x.token; col = column x.token; kind = k } ∷ rest | _ ↦ rest ]

@@ -3,8 +3,6 @@ pub mod Enumerating
 pub mod Searched
 pub mod Whole
 pub mod Counting
-pub mod Refuted
-pub mod Ranges
 pub mod LayerLaws
 pub mod Outputs
 pub mod Firsts
@@ -14,6 +12,7 @@ pub mod Loop
 pub mod Down
 pub mod Step
 pub mod Alternatives
+pub mod Telling
 pub mod Choices
 pub mod RangeLaws
 pub mod RunsKept
@@ -24,4 +23,3 @@ pub mod Tried
 pub mod Running
 pub mod Comparing
 pub mod Following
-pub mod Unexplored

@@ -18,11 +18,11 @@ use Rattle.cc_model.specs.Meaning.{Entry}
 use Rattle.cc_model.specs.Runs.{IsInput, params_of}
 use Rattle.cc_model.specs.Traced.{Choice, Event}
 use Rattle.cc_laws.specs.LinearForms.{linear}
-use Rattle.search_dfs.specs.Placing.{NamesAtom, NameAtoms, IsNumberAt}
-use Rattle.search_dfs.specs.Lawful.{Lawful, StandsRight}
+use Rattle.sym_run.specs.Placing.{NamesAtom, NameAtoms, IsNumberAt}
+use Rattle.run_laws.specs.Lawful.{Lawful, StandsRight}
 use Rattle.search_dfs.proofs.LayerLaws.{EventInRange}
-use Rattle.search_dfs.proofs.Ranges.{Stands, good_at}
-use Rattle.search_dfs.proofs.Refuted.{put_in, places_asked}
+use Rattle.flip_solve.proofs.Ranges.{Stands, good_at}
+use Rattle.flip_solve.proofs.Refuted.{put_in, places_asked}
 
 -- ---- the places of an atom
 

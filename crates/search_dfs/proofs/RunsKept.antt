@@ -13,7 +13,7 @@ use Rattle.cc_model.specs.Traced.{traced}
 use Rattle.cc_laws.specs.LinearForms.{linear}
 use Rattle.input_map.proofs.BaseInputs.{base_within, base_is_input}
 use Rattle.search_dfs.specs.Below.{column_in}
-use Rattle.search_dfs.specs.Lawful.{Lawful}
+use Rattle.run_laws.specs.Lawful.{Lawful}
 use Rattle.search_dfs.specs.Laws.{Laws}
 use Rattle.search_dfs.specs.Setting.{Setting, layer_of}
 use Rattle.search_dfs.proofs.LayerLaws.{layer_laws}

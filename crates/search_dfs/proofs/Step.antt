@@ -22,7 +22,7 @@ use Rattle.search_dfs.proofs.Loop.{one, own, entered, cut_off, first_own, begins
 use Rattle.search_dfs.proofs.Down.{last_is, snoc_first}
 use Rattle.std.proofs.Common.{get_or}
 use Rattle.search_dfs.specs.Setting.{Answered}
-use Rattle.search_dfs.specs.declared.turning.Turned.{Turned}
+use Rattle.flip_solve.specs.declared.flipping.Turned.{Turned}
 
 cost_some : (n : ℕ) → 0 < cost n
 unfolding cost

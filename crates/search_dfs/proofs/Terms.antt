@@ -10,8 +10,8 @@ use Rattle.cc_model.specs.Report.{is_fault, has_fault}
 use Rattle.cc_model.specs.Tested.{Term}
 use Rattle.cc_model.specs.declared.checked.Site.{Site}
 use Rattle.cc_laws.proofs.Members.{is_same, not_same}
-use Rattle.search_dfs.specs.declared.below.Term.{Term as RunTerm}
-use Rattle.search_dfs.specs.declared.below.Trace.{Trace}
+use Rattle.sym_run.specs.declared.trace.Term.{Term as RunTerm}
+use Rattle.sym_run.specs.declared.trace.Trace.{Trace}
 use Rattle.search_dfs.specs.Below.{column_in, found_at}
 use Rattle.search_dfs.specs.declared.tally.FoundTerm.{FoundTerm}
 use Rattle.search_dfs.specs.declared.tally.Tally.{Tally}

@@ -1,10 +1,8 @@
 -- What the search takes from a traced run.
-use Rattle.std.specs.Prelude.{ℕ, ◌≤◌, ◌≡◌, List, [], ◌∷◌, length, map, option_map, unwrap_or, Some, slice_get, All, nat_eq, if◌then◌else◌}
+use Rattle.std.specs.Prelude.{ℕ, ◌≡◌, List, [], ◌∷◌, map, option_map, unwrap_or, Some, slice_get, All, nat_eq, if◌then◌else◌}
 use Rattle.cc_base.specs.declared.inputs.Input.{Input}
-use Rattle.cc_base.specs.declared.outcomes.Outcome.{Outcome}
 use Rattle.cc_base.specs.Limits.{Limits}
 use Rattle.cc_base.specs.Outcomes.{HasByte}
-use Rattle.cc_base.specs.Paths.{In, Ascend}
 use Rattle.cc_model.specs.declared.checked.Checked.{Checked}
 use Rattle.cc_model.specs.declared.checked.Site.{Site}
 use Rattle.cc_model.specs.CheckedProgram.{core_of}
@@ -12,23 +10,10 @@ use Rattle.cc_model.specs.Conditions.{alternatives_at, events_of, terms}
 use Rattle.cc_model.specs.Runs.{path_at, end_at}
 use Rattle.cc_model.specs.Tested.{Term as Found}
 use Rattle.cc_laws.specs.LinearForms.{linear}
-use Rattle.search_dfs.specs.declared.below.Event.{Event}
-use Rattle.search_dfs.specs.declared.below.Term.{Term}
-use Rattle.search_dfs.specs.declared.below.Trace.{Trace}
-
--- the outcome that came
-abbrev pub outcome_at : Event → Outcome
-outcome_at e = (e.taken).outcome
-
--- the other outcomes
-abbrev pub others_at : Event → List Outcome
-others_at e = map (λ c. c.outcome) e.others
-
--- the other outcomes are at most 28, ascend by their bytes, and are not the one that came; with it they are at most 29
-pub record OffersFew (e : Event) : Type 0 where
-  pub few : length e.others ≤ 28
-  pub ascend : Ascend (others_at e)
-  pub not_own : In (outcome_at e) (others_at e) → ⊥
+use Rattle.sym_run.specs.declared.trace.Event.{Event}
+use Rattle.sym_run.specs.declared.trace.Term.{Term}
+use Rattle.sym_run.specs.declared.trace.Trace.{Trace}
+use Rattle.sym_run.specs.Traces.{OffersFew, outcome_at, others_at}
 
 -- the column of a token that has a site
 unfoldable pub column_in : List Site → ℕ → ℕ
@@ -52,4 +37,3 @@ pub record Tells (c : Checked) (b : Limits) (h : Input) (t : Trace) : Type 0 whe
   pub terms : map (found_at c) t.terms ≡ terms (core_of c).line (column_in c.sites) (events_of linear (core_of c) b h)
   pub few : (k : ℕ) (e : Event) → slice_get t.events k ≡ Some e → OffersFew e
   pub bytes : All HasByte (map outcome_at t.events)
-  pub other_bytes : (k : ℕ) (e : Event) → slice_get t.events k ≡ Some e → (o : Outcome) → In o (others_at e) → HasByte o

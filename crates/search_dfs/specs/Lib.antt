@@ -9,5 +9,3 @@ pub mod Turns
 pub mod Whole
 pub mod Explored
 pub mod Inserting
-pub mod Placing
-pub mod Lawful

@@ -1,25 +1,20 @@
 -- What a search has from its start, what it writes, and what it counts.
-use Rattle.std.specs.Prelude.{ℕ, zero, suc, ◌+◌, ◌^◌, ◌<◌, ◌≤◌, ◌≡◌, ◌⊎◌, ◌↔◌, Bool, true, false, ◌||◌, List, [], ◌∷◌, ◌++◌, length, map, Option, Some, None, option_map, slice_get, unwrap_or, nat_eq, if◌then◌else◌, All}
-use Rattle.cc_base.specs.declared.ends.End.{End}
+use Rattle.std.specs.Prelude.{ℕ, zero, suc, ◌≤◌, ◌≡◌, ◌⊎◌, ◌↔◌, List, [], ◌∷◌, length, All}
 use Rattle.cc_base.specs.declared.inputs.Input.{Input}
-use Rattle.cc_base.specs.declared.inputs.Test.{Test}
 use Rattle.cc_base.specs.declared.outcomes.Outcome.{Outcome}
 use Rattle.cc_base.specs.declared.outcomes.Outcome.TheVariants.{Zero}
 use Rattle.cc_base.specs.Limits.{Limits}
 use Rattle.cc_base.specs.Outcomes.{HasByte}
-use Rattle.cc_base.specs.Paths.{Path, In, Ascend, next}
+use Rattle.cc_base.specs.Paths.{Path, In, Ascend}
 use Rattle.cc_model.specs.declared.checked.Checked.{Checked}
-use Rattle.cc_model.specs.declared.checked.Site.{Site}
 use Rattle.cc_model.specs.CheckedProgram.{core_of}
 use Rattle.cc_model.specs.Conditions.{layer}
-use Rattle.cc_model.specs.Tested.{Layer, Term, never, spent, turned}
-use Rattle.cc_model.specs.Listing.{Item, test_item, past_item, stray_item, spent_item, unrun_item, WasRun, TermBefore, count_by, is_test, is_run, is_spent, is_at_steps, is_stray, is_unrun}
-use Rattle.cc_model.specs.Report.{item_line, item_lines, has_fault}
+use Rattle.cc_model.specs.Tested.{Layer, never, spent, turned}
 use Rattle.cc_laws.specs.LinearForms.{linear}
-use Rattle.cc_outside.specs.Told.{appended, WritesPart}
-use Rattle.search_dfs.specs.declared.below.Trace.{Trace}
-use Rattle.search_dfs.specs.declared.turning.Turned as answer
-use Rattle.search_dfs.specs.declared.turning.Turned.TheVariants as turn
+use Rattle.sym_run.specs.declared.trace.Trace.{Trace}
+use Rattle.sym_run.specs.Traces.{IsTrace}
+use Rattle.flip_solve.specs.declared.flipping.Turned as answer
+use Rattle.flip_solve.specs.declared.flipping.Turned.TheVariants as turn
 use Rattle.search_dfs.specs.Below.{Tells, column_in}
 
 -- a checked program, the bounds and the budget of a solve
@@ -50,6 +45,7 @@ pub record ChoicesOf (s : Setting) (i : Input) (k : ℕ) (os : List Outcome) : T
 -- a run within the bounds, with its path
 pub record TraceOf (s : Setting) (t : Trace) (p : Path) : Type 0 where
   pub within : ((layer_of s).runs).IsWithin t.input
+  pub is_trace : IsTrace s.checked s.limits t.input t
   pub trace : Tells s.checked s.limits t.input t
   pub path : p ≡ ((layer_of s).runs).path t.input
   pub end : t.end ≡ ((layer_of s).runs).end t.input
@@ -77,9 +73,3 @@ others_of s i k = (layer_of s).others i k
 
 abbrev pub meets_of : Setting → Input → Path → Input → Type 0
 meets_of s u q i = (layer_of s).Meets u q i
-
--- an input that was solved for has fewer than 10^18 cells
-abbrev pub HasFewCells : answer.Turned → Type 0
-HasFewCells turn.Never = Unit {0}
-HasFewCells turn.Spent = Unit {0}
-HasFewCells (turn.Turned i) = length i.cells < 10 ^ 18

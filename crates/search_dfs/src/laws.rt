@@ -8,6 +8,7 @@ use crate::task::Task;
 use cc_laws::{
     conditions_are_exact, no_path_begins_another, outcomes_are_exhausted, tracing_adds_nothing,
 };
+use run_laws::a_run_is_lawful;
 
 /// The tested function with what its traced runs tell keeps the laws of the search.
 pub(crate) fn laws_hold(task: &Task<'_>)
@@ -15,6 +16,7 @@ pub(crate) fn laws_hold(task: &Task<'_>)
     ensures { Laws (layer_of (setting_of task.now)) }
 {
     let _lo = task.bounds.lo();
+    a_run_is_lawful();
     no_path_begins_another();
     tracing_adds_nothing();
     conditions_are_exact();

@@ -1,7 +1,6 @@
 //! The depth-first search of the paths of a tested function.
 #![tactic(auto)]
 
-mod below;
 mod fault;
 mod laws;
 mod lines;
@@ -12,7 +11,6 @@ mod runs;
 mod search;
 mod tally;
 mod task;
-mod turning;
 
 pub use fault::SearchFault;
 pub use search::{Summary, explore};

@@ -7,17 +7,18 @@ ghost use Rattle.search_dfs.specs.Output.{out as told};
 ghost use Rattle.search_dfs.specs.Task.{setting_of, after_of, Known};
 ghost use Rattle.search_dfs.specs.Turns.{levels_of, runs_of, Fits_open, Ready, Taken, Solving, Turned_to, Went, WentSome, Turn, TurnSome, SinkCause};
 
-use crate::below::Trace;
 use crate::fault::SearchFault;
 use crate::listed::{list_run, list_spent, list_stray, list_unrun};
 use crate::order::{begins, is_passed, prefix_of, same};
 use crate::runs::{choices_of, last_run, leave, made_run, own_outcome};
 use crate::tally::Tally;
 use crate::task::Task;
-use crate::turning::{Turned, turn};
 use cc_model::base::{Input, Items, Outcome, PathText};
 use cc_outside::Sink;
+use flip_solve::{Turned, turn};
 use path_tree::Tree;
+use run_laws::a_run_is_lawful;
+use sym_run::Trace;
 
 /// A run with its path, whose events from number `from` on are still open.
 #[derive(Drop)]
@@ -114,6 +115,7 @@ impl Open {
             TurnSome (setting_of task.now) (after_of task.now) task.now.limit ((outcome ∷ os) ∷ ls) (r ∷ rs) self.old (told (K.written sink.old) (K.faults sink.old) tally.old) (told (K.written sink.new) (K.faults sink.new) tally.new)) }
         ensures sink { IfErr result (λ e. SinkCause (K.faults sink.old) (K.faults sink.new) e) }
     {
+        a_run_is_lawful();
         let run = last_run(&self.runs);
         match turn(
             task.alloc,

@@ -5,18 +5,18 @@ ghost use Rattle.cc_base.specs.declared.outcomes.Outcome.{Outcome as PlainOutcom
 ghost use Rattle.cc_base.specs.Outcomes.{byte_of};
 ghost use Rattle.cc_base.specs.Paths.{In, Ascend};
 ghost use Rattle.search_dfs.specs.declared.open.Pending.{Pending as Kept};
-ghost use Rattle.search_dfs.specs.Below.{OffersFew, outcome_at, others_at};
+ghost use Rattle.sym_run.specs.Traces.{OffersFew, outcome_at, others_at};
 ghost use Rattle.search_dfs.specs.Inserting.{IsPlace};
 ghost use Rattle.search_dfs.specs.Setting.{TraceOf, ChoicesOf, own_at, within_of};
 ghost use Rattle.search_dfs.specs.Stack.{last_first, left_at};
 ghost use Rattle.search_dfs.specs.Task.{setting_of, Known};
 
-use crate::below::{Choice, Event, run};
 use crate::open::Pending;
 use crate::order::byte;
 use crate::task::Task;
 use cc_model::base::{Input, Items, NoMemory, Outcome};
 use std::alloc::Global;
+use sym_run::{Choice, Event, run};
 
 /// The last run.
 pub(crate) fn last_run(runs: &Items<Pending>) -> &Pending

@@ -2,10 +2,13 @@
 
 ghost use Rattle.std.specs.Prelude.{◌≡◌, ◌≤◌, IfOk, OnOk, OnErr, IfErr, map, option_map};
 ghost use Rattle.cc_model.specs.CheckedProgram.{core_of};
+ghost use Rattle.cc_model.specs.Compiles.{Compiles};
 ghost use Rattle.cc_model.specs.Graphs.{PointsToCells};
 ghost use Rattle.cc_model.specs.Report.{term_line, term_lines};
 ghost use Rattle.cc_model.specs.Runs.{params_of};
 ghost use Rattle.cc_outside.specs.Told.{appended, WritesPart};
+ghost use Rattle.tac_lower.specs.Finished.{first_in};
+ghost use Rattle.tac_lower.specs.Seen.{seen};
 ghost use Rattle.search_dfs.specs.declared.open.Pending.{Pending as Kept};
 ghost use Rattle.search_dfs.specs.Explored.{Explored, ExploredSome, Counted};
 ghost use Rattle.search_dfs.specs.Output.{seen_term, out as told};
@@ -14,7 +17,6 @@ ghost use Rattle.search_dfs.specs.Task.{setting_of, after_of, Known};
 ghost use Rattle.search_dfs.specs.Turns.{Begins, SinkCause};
 ghost use Rattle.search_dfs.specs.Whole.{Listed_whole, Listed_part};
 
-use crate::below::Tac;
 use crate::fault::SearchFault;
 use crate::laws::laws_hold;
 use crate::lines::{term_line, write_line};
@@ -22,13 +24,13 @@ use crate::open::Open;
 use crate::runs::made_run;
 use crate::tally::{FoundTerm, Tally};
 use crate::task::Task;
-use crate::turning::lawful;
 use cc_model::Checked;
 use cc_model::base::{Bounds, Input, Items, NoMemory, PathText};
 use cc_outside::Sink;
 use input_map::base_input;
 use path_tree::Tree;
 use std::alloc::Global;
+use tac_lower::Tac;
 
 /// The counts of a finished search: its tests, its runs, its terms, the prefixes whose solve passed the budget, the tests that the
 /// bound on steps ended, the runs that left their prediction, the inputs that were not run, and whether a test or stray run ended
@@ -138,6 +140,7 @@ pub fn explore<K: Sink>(
     after: Option<&PathText>,
     out: &mut K,
 ) -> Result<Summary, SearchFault>
+    requires compiles { Compiles (core_of checked.now) (map (seen checked.now) tac.now.code) (λ f. first_in tac.now f) }
     requires points { PointsToCells (core_of checked.now).layouts (params_of (core_of checked.now)) }
     requires runs { 1 ≤ runs }
     ensures explored { IfOk result (λ s. Explored (setting checked.now bounds.now budget) (option_map (λ r. r.now) after.entry) runs (K.written out.old) (K.written out.new) s) }
@@ -153,7 +156,6 @@ pub fn explore<K: Sink>(
         budget,
         after,
     };
-    lawful(checked, tac, bounds)?;
     let mut tally = Tally::new(alloc);
     search_all(&task, out, &mut tally)?;
     write_terms(alloc, tally.terms.as_slice(), out)?;

@@ -14,12 +14,12 @@ ghost use Rattle.search_dfs.specs.Setting.{Setting, TraceOf};
 ghost use Rattle.search_dfs.specs.Task.{setting_of};
 ghost use Rattle.search_dfs.specs.Turns.{test_at};
 
-use crate::below::Term;
 use crate::open::Pending;
 use crate::task::Task;
 use cc_model::base::{End, NoMemory};
 use cc_model::{Checked, Site, SiteId, TermKind};
 use std::alloc::Global;
+use sym_run::Term;
 
 /// A site at which a listed run concretised, by its line and column, and why.
 #[derive(Clone, Copy)]

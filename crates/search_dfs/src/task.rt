@@ -1,9 +1,9 @@
 //! What a search has from its start.
 
-use crate::below::Tac;
 use cc_model::Checked;
 use cc_model::base::{Bounds, PathText};
 use std::alloc::Global;
+use tac_lower::Tac;
 
 /// What a search has from its start: how many runs may be made, the budget of a solve, and the path after which it goes on.
 #[derive(Clone, Copy)]

@@ -2,7 +2,7 @@ use Rattle.std.proofs.Common.{◌≡◌, ◌<◌, ◌⊎◌, ◌↔◌, map, ins
 use Rattle.cc_base.specs.declared.outcomes.Outcome.{Outcome}
 use Rattle.cc_base.specs.Outcomes.{byte_of}
 use Rattle.cc_base.specs.Paths.{In, Ascend}
-use Rattle.search_dfs.specs.Below.{outcome_at, others_at}
+use Rattle.sym_run.specs.Traces.{outcome_at, others_at}
 use Rattle.search_dfs.specs.Inserting.{IsPlace}
 use Rattle.search_dfs.proofs.Choices.{choices_ascend, choices_all}
 use Rattle.search_dfs.proofs.runs.all_outcomes.Goals as goal

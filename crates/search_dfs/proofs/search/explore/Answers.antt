@@ -5,14 +5,10 @@ use Rattle.search_dfs.specs.Output.{seen_term}
 use Rattle.search_dfs.specs.Setting.{setting}
 use Rattle.search_dfs.proofs.Down.{on_err}
 use Rattle.search_dfs.proofs.Ending.{explored, explored_part, listed_part, sink_later}
-use Rattle.search_dfs.proofs.Unexplored.{nothing_written}
 use Rattle.search_dfs.proofs.search.explore.Goals as goal
 
-pub returns-in_err-lawful-clause-some : goal.returns-in_err-lawful-clause-some
-returns-in_err-lawful-clause-some g c = on_err _ (nothing_written _ _ _ _ refl)
-
 pub search_all-requires-clause-known : goal.search_all-requires-clause-known
-search_all-requires-clause-known g c = record { points = c.requires.points; lawful = c.in_ok-lawful.ensures }
+search_all-requires-clause-known g c = record { compiles = c.requires.compiles; points = c.requires.points }
 
 pub returns-in_err-search_all-clause-some : goal.returns-in_err-search_all-clause-some
 returns-in_err-search_all-clause-some g c = on_err _ (listed_part (setting c.args.checked.now c.args.bounds.now c.args.budget) (option_map (λ r. r.now) c.args.after) c.args.runs c.new-tally.result c.search_all.new.tally (g.K.Sink.written (c.args.out).now) (g.K.Sink.written c.search_all.new.sink) (g.K.Sink.written c.search_all.new.sink) (g.K.Sink.faults (c.args.out).now) (g.K.Sink.faults c.search_all.new.sink) c.new-tally.ensures.none c.new-tally.ensures.zero c.in_err-search_all.ensures.err)

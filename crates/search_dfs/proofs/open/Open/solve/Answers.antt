@@ -24,7 +24,14 @@ turn-requires-clause-trace g c =
     let T = (c.requires.solving.4).taken in
     let e = c.last_run-run.ensures c.requires.solving.2 c.requires.solving.3 T.runs in
     let tr = subst (λ x. TraceOf (setting_of (c.args.task).now) x.trace x.path) (sym e) (T.level).trace in
-    tr.trace
+    tr.is_trace
+
+pub turn-requires-clause-lawful : goal.turn-requires-clause-lawful
+turn-requires-clause-lawful g c =
+    let T = (c.requires.solving.4).taken in
+    let e = c.last_run-run.ensures c.requires.solving.2 c.requires.solving.3 T.runs in
+    let tr = subst (λ x. TraceOf (setting_of (c.args.task).now) x.trace x.path) (sym e) (T.level).trace in
+    c.a_run_is_lawful.ensures _ _ _ c.requires.known.points (within_input (setting_of (c.args.task).now) _ tr.within)
 
 pub turn-requires-clause-offered : goal.turn-requires-clause-offered
 turn-requires-clause-offered g c =
@@ -41,7 +48,7 @@ returns-in_err-turn-clause-err g c = on_err c.from_residual.result (λ os ls r r
 pub returns-in-Never-clause-ok : goal.returns-in-Never-clause-ok
 returns-in-Never-clause-ok g c = λ os ls r rs S.
     let e = c.last_run-run.ensures r rs (S.taken).runs in
-    (never_turn (setting_of (c.args.task).now) (after_of (c.args.task).now) ((c.args.task).now).limit (c.args.self).now c.args.outcome (c.args.prefix).now os ls r rs S _ (is_never (setting_of (c.args.task).now) (after_of (c.args.task).now) (c.args.self).now c.args.outcome (c.args.prefix).now os ls r rs S _ e _ c.in_ok-turn.ensures.answer c.in-Never.is), c.requires.room)
+    (never_turn (setting_of (c.args.task).now) (after_of (c.args.task).now) ((c.args.task).now).limit (c.args.self).now c.args.outcome (c.args.prefix).now os ls r rs S _ (is_never (setting_of (c.args.task).now) (after_of (c.args.task).now) (c.args.self).now c.args.outcome (c.args.prefix).now os ls r rs S _ e _ c.in_ok-turn.ensures.answer c.in_ok-turn.ensures.turned c.in-Never.is), c.requires.room)
 
 pub list_spent-requires : goal.list_spent-requires
 list_spent-requires g c = (c.requires.solving.4).bytes
@@ -49,12 +56,12 @@ list_spent-requires g c = (c.requires.solving.4).bytes
 pub returns-in-Spent-clause-ok : goal.returns-in-Spent-clause-ok
 returns-in-Spent-clause-ok g c = ok_map c.list_spent.result c.list_spent.ensures.ok (λ k os ls r rs S.
     let e = c.last_run-run.ensures r rs (S.taken).runs in
-    (spent_turn (setting_of (c.args.task).now) (after_of (c.args.task).now) ((c.args.task).now).limit (c.args.self).now c.args.outcome (c.args.prefix).now os ls r rs S _ _ (is_spent (setting_of (c.args.task).now) (after_of (c.args.task).now) (c.args.self).now c.args.outcome (c.args.prefix).now os ls r rs S _ e _ c.in_ok-turn.ensures.answer c.in-Spent.is) k, c.requires.room))
+    (spent_turn (setting_of (c.args.task).now) (after_of (c.args.task).now) ((c.args.task).now).limit (c.args.self).now c.args.outcome (c.args.prefix).now os ls r rs S _ _ (is_spent (setting_of (c.args.task).now) (after_of (c.args.task).now) (c.args.self).now c.args.outcome (c.args.prefix).now os ls r rs S _ e _ c.in_ok-turn.ensures.answer c.in_ok-turn.ensures.turned c.in-Spent.is) k, c.requires.room))
 
 pub returns-in-Spent-clause-err : goal.returns-in-Spent-clause-err
 returns-in-Spent-clause-err g c = err_map c.list_spent.result c.list_spent.ensures.err (λ k os ls r rs S.
     let e = c.last_run-run.ensures r rs (S.taken).runs in
-    spent_some (setting_of (c.args.task).now) (after_of (c.args.task).now) ((c.args.task).now).limit (c.args.self).now c.args.outcome (c.args.prefix).now os ls r rs S _ _ (is_spent (setting_of (c.args.task).now) (after_of (c.args.task).now) (c.args.self).now c.args.outcome (c.args.prefix).now os ls r rs S _ e _ c.in_ok-turn.ensures.answer c.in-Spent.is) k)
+    spent_some (setting_of (c.args.task).now) (after_of (c.args.task).now) ((c.args.task).now).limit (c.args.self).now c.args.outcome (c.args.prefix).now os ls r rs S _ _ (is_spent (setting_of (c.args.task).now) (after_of (c.args.task).now) (c.args.self).now c.args.outcome (c.args.prefix).now os ls r rs S _ e _ c.in_ok-turn.ensures.answer c.in_ok-turn.ensures.turned c.in-Spent.is) k)
 
 pub follow-requires-clause-solving : goal.follow-requires-clause-solving
 follow-requires-clause-solving g c =
@@ -65,15 +72,15 @@ follow-requires-clause-solving g c =
       c.requires.solving.2,
       c.requires.solving.3,
       S,
-      is_turned (setting_of (c.args.task).now) (after_of (c.args.task).now) (c.args.self).now c.args.outcome (c.args.prefix).now c.requires.solving.0 c.requires.solving.1 c.requires.solving.2 c.requires.solving.3 S _ e _ c.in_ok-turn.ensures.answer c.in-Turned.input c.in-Turned.is,
+      is_turned (setting_of (c.args.task).now) (after_of (c.args.task).now) (c.args.self).now c.args.outcome (c.args.prefix).now c.requires.solving.0 c.requires.solving.1 c.requires.solving.2 c.requires.solving.3 S _ e _ c.in_ok-turn.ensures.answer c.in_ok-turn.ensures.turned c.in-Turned.input c.in-Turned.is,
     )
 
 pub returns-in-Turned-clause-ok : goal.returns-in-Turned-clause-ok
 returns-in-Turned-clause-ok g c = ok_map c.follow.result c.follow.ensures.ok (λ f os ls r rs S.
     let e = c.last_run-run.ensures r rs (S.taken).runs in
-    f os ls r rs S (is_turned (setting_of (c.args.task).now) (after_of (c.args.task).now) (c.args.self).now c.args.outcome (c.args.prefix).now os ls r rs S _ e _ c.in_ok-turn.ensures.answer c.in-Turned.input c.in-Turned.is))
+    f os ls r rs S (is_turned (setting_of (c.args.task).now) (after_of (c.args.task).now) (c.args.self).now c.args.outcome (c.args.prefix).now os ls r rs S _ e _ c.in_ok-turn.ensures.answer c.in_ok-turn.ensures.turned c.in-Turned.input c.in-Turned.is))
 
 pub returns-in-Turned-clause-err : goal.returns-in-Turned-clause-err
 returns-in-Turned-clause-err g c = err_map c.follow.result c.follow.ensures.err (λ f os ls r rs S.
     let e = c.last_run-run.ensures r rs (S.taken).runs in
-    f os ls r rs S (is_turned (setting_of (c.args.task).now) (after_of (c.args.task).now) (c.args.self).now c.args.outcome (c.args.prefix).now os ls r rs S _ e _ c.in_ok-turn.ensures.answer c.in-Turned.input c.in-Turned.is))
+    f os ls r rs S (is_turned (setting_of (c.args.task).now) (after_of (c.args.task).now) (c.args.self).now c.args.outcome (c.args.prefix).now os ls r rs S _ e _ c.in_ok-turn.ensures.answer c.in_ok-turn.ensures.turned c.in-Turned.input c.in-Turned.is))
