@@ -9,16 +9,16 @@ ghost use Rattle.sym_expr.specs.AtomsSeen.{atoms_of};
 ghost use Rattle.flip_solve.specs.Choosing.{LieWithin, IsChosen, NamesPlaces, AreClassesIf, IsAskedOf};
 ghost use Rattle.flip_solve.specs.Settling.{Settles};
 
-use input_map::{Assignment, build};
-use slice_solve::solve_slice;
 use crate::blocks::blocks;
 use crate::flipping::Turned;
 use crate::gathering::push_pointers;
 use crate::numbers::numbers;
 use cc_model::Checked;
 use cc_model::base::{Bounds, Input, Items, NoMemory};
+use input_map::{Assignment, build};
 use linear_solver::Solved;
 use pointer_solver::{Classes, PointerFault, solve_pointers};
+use slice_solve::solve_slice;
 use std::alloc::Global;
 use sym_expr::{Atom, Places};
 
