@@ -1,8 +1,7 @@
 //! The atoms that are asked: those taken before an event, those of an outcome, and the pointers' among them.
 
 ghost use Rattle.std.specs.Prelude.{◌≡◌, ◌++◌, ◌∷◌, [], IfOk, OnOk, if◌then◌else◌};
-ghost use Rattle.cc_base.specs.Outcomes.{byte_of};
-ghost use Rattle.cc_model.specs.Conditions.{atoms_of as atoms_among, same_outcome};
+ghost use Rattle.cc_model.specs.Conditions.{atoms_of as atoms_among};
 ghost use Rattle.sym_expr.specs.AtomsSeen.{atom_of, atoms_of};
 ghost use Rattle.sym_run.specs.Asks.{choices_of};
 ghost use Rattle.flip_solve.specs.Choosing.{pointer_part, pointers_of, taken_of};
@@ -10,7 +9,7 @@ ghost use Rattle.flip_solve.specs.Choosing.{pointer_part, pointers_of, taken_of}
 use cc_model::base::{Items, NoMemory, Outcome};
 use std::alloc::Global;
 use sym_expr::Atom;
-use sym_run::{Choice, Event};
+use sym_run::{Choice, Event, same_outcome};
 
 /// Appends atoms.
 fn push_all(atoms: &mut Items<Atom>, more: &[Atom]) -> Result<(), NoMemory>
@@ -31,29 +30,6 @@ pub(crate) fn taken_at(alloc: Global, events: &[Event]) -> Result<Items<Atom>, N
         push_all(&mut atoms, event.taken.atoms.as_slice())?;
     }
     Ok(atoms)
-}
-
-/// The outcome's byte in a path, also for a rank without a letter.
-fn key(outcome: Outcome) -> u16
-    ensures { result ≡ byte_of outcome }
-{
-    match outcome {
-        Outcome::Zero => 33,
-        Outcome::High => 43,
-        Outcome::Low => 45,
-        Outcome::Plain => 46,
-        Outcome::False => 70,
-        Outcome::True => 84,
-        Outcome::Object(rank) => 97 + u16::from(rank),
-    }
-}
-
-/// Whether outcomes are the same.
-#[tactic(auto, unfolding(cc_model::specs::Conditions::same_outcome))]
-fn same_outcome(a: Outcome, b: Outcome) -> bool
-    ensures { result ≡ same_outcome a b }
-{
-    key(a) == key(b)
 }
 
 /// The atoms of an outcome among choices; none where it is not one of them.

@@ -41,9 +41,9 @@ fn key(outcome: Outcome) -> u16
     }
 }
 
-/// Whether outcomes are the same.
+/// Whether outcomes are the same: they have one byte in a path.
 #[tactic(auto, unfolding(cc_model::specs::Conditions::same_outcome))]
-fn same_outcome(a: Outcome, b: Outcome) -> bool
+pub fn same_outcome(a: Outcome, b: Outcome) -> bool
     ensures { result ≡ same_outcome a b }
 {
     key(a) == key(b)

@@ -29,7 +29,7 @@ mod whole_run;
 
 pub use acted::Acted;
 pub use asked::Asked;
-pub use journal::Journal;
+pub use journal::{Journal, same_outcome};
 pub use machine::{Fixed, Machine};
 pub use number_acts::Decided;
 pub use numbers::{Comparison, Operation};
