@@ -1,7 +1,8 @@
 -- What a call comes to, by its status.
 use Rattle.std.proofs.Common.{◌≡◌, ℕ, zero, suc, ◌+◌, ◌<◌, ◌≤◌, ◌⊎◌, ◌↔◌, Option, inl, inr, ⊎_elim, Bool, true, false, List, [], ◌∷◌, ◌++◌, refl, sym, ap, subst, ◌∙◌, arith, codes, if◌then◌else◌, nat_eq}
 use Rattle.cc_base.specs.Limits.{Limits}
-use Rattle.cc_base.specs.Paths.{In}
+use Rattle.cc_base.specs.Paths.{Path, In}
+use Rattle.cc_model.specs.declared.commands.Command.TheVariants.{Make}
 use Rattle.cc_model.specs.Listing.{counts_of}
 use Rattle.cc_model.specs.Report.{newline, total, has_fault, is_fault}
 use Rattle.cc_model.specs.Runs.{end_at}
@@ -9,11 +10,13 @@ use Rattle.cc_outside.specs.Faults.{Rose}
 use Rattle.input_map.specs.declared.faults.MapFault.{MapFault}
 use Rattle.concolic_cli.specs.declared.refusal.Refusal.{Refusal}
 use Rattle.concolic_cli.specs.declared.refusal.Refusal.TheVariants as refusal
-use Rattle.concolic_cli.specs.Concolic.{Call, Answered, bad, done, refused, PartStands, SourceIsRefused, FileFault, FileIsRefused}
+use Rattle.concolic_cli.specs.Concolic.{Call, Answered, bad, done, refused, made, unmade, PartStands, of_task, of_make, SourceIsRefused, MadeIsRefused, FileFault, FileIsRefused}
+use Rattle.concolic_cli.specs.Made.{made_source, made_entry}
 use Rattle.concolic_cli.specs.Refusals.{bad_word_text, file_text, map_text_of, Says, IsAnswered}
-use Rattle.concolic_cli.specs.Session.{ReadAs, Wrote, WroteFirst, Stands, nothing, Cause, SourceCause}
+use Rattle.concolic_cli.specs.Session.{ReadAs, Wrote, WroteFirst, Stands, nothing, Cause, SourceCause, WroteLast, WroteLastFirst, LastStands, no_line, first_part, MadeCause}
+use Rattle.concolic_cli.specs.Sources.{Refuses}
 use Rattle.concolic_cli.specs.Tasks.{Task, Work, list, trace, Asks, IsReport, RefusesTask}
-use Rattle.concolic_cli.specs.Words.{BadWord}
+use Rattle.concolic_cli.specs.Words.{Accepted, BadWord}
 
 -- ---- the status of a report
 
@@ -36,12 +39,12 @@ pub small_in : (n : ℕ) → n ≤ 1 → In n (0 ∷ 1 ∷ 10 ∷ 11 ∷ [])
 small_in n h = ⊎_elim (λ e. inl e) (λ e. inr (inl e)) (small_of n h)
 
 pub report_status : (bytes entry : List ℕ) (w : Work) (text : List ℕ) (status : ℕ) → IsReport bytes entry w text status → In status (0 ∷ 1 ∷ 10 ∷ 11 ∷ [])
-report_status bytes entry (list b runs budget) text status h = verdict_in (nat_eq (total (counts_of (h.listing))) 0) (has_fault (h.listing).items) status h.verdict
+report_status bytes entry (list b runs budget after) text status h = verdict_in (nat_eq (total (counts_of (h.listing))) 0) (has_fault (h.listing).items) status h.verdict
 report_status bytes entry (trace b map) text status h = small_in status (run_in (is_fault (end_at h.program b h.input)) status h.verdict)
 
 -- a run that is told has no other status
-pub trace_status : (bytes entry : List ℕ) (w : Work) (text : List ℕ) (status : ℕ) → IsReport bytes entry w text status → 10 ≤ status → (b : Limits) × (n : ℕ) × (m : ℕ) × (w ≡ list b n m)
-trace_status bytes entry (list b runs budget) text status h l = (b, runs, budget, refl)
+pub trace_status : (bytes entry : List ℕ) (w : Work) (text : List ℕ) (status : ℕ) → IsReport bytes entry w text status → 10 ≤ status → (b : Limits) × (n : ℕ) × (m : ℕ) × (a : Option Path) × (w ≡ list b n m a)
+trace_status bytes entry (list b runs budget after) text status h l = (b, runs, budget, after, refl)
 trace_status bytes entry (trace b map) text status h l = let s = run_in (is_fault (end_at h.program b h.input)) status h.verdict in absurd (omega (arith, s, l))
 
 -- nothing lies between 1 and 10
@@ -69,7 +72,24 @@ refused_call call status why told task e a cause answered =
     refused task why a (subst (λ k. Cause call.seen k why) e cause)
     (subst (λ k. IsAnswered call.err_old call.err_new call.err_faults_old call.err_faults_new k.file k.entry why status) e answered)
 
+pub made_call : (call : Call) (status n : ℕ) → Accepted call.words (Make n) → (status ≡ 0) × WroteLast n (call.seen).out_old (call.seen).out_new → call.err_new ≡ call.err_old → Answered call status
+made_call call status n a w quiet = made n a w.1 w.0 quiet
+
+pub unmade_call : (call : Call) (status n : ℕ) (why : Refusal) → Accepted call.words (Make n) → MadeCause n (call.seen).out_old (call.seen).out_new (call.seen).faults_old (call.seen).faults_new why →
+    IsAnswered call.err_old call.err_new call.err_faults_old call.err_faults_new [] made_entry why status → Answered call status
+unmade_call call status n why a cause answered = unmade n why a cause answered
+
 -- ---- by status
+
+-- what `make` comes to
+pub data MakeEnding (call : Call) (status n : ℕ) : Type 0 where
+  at_line : status ≡ 0 → WroteLast n (call.seen).out_old (call.seen).out_new → call.err_new ≡ call.err_old → MakeEnding call status n
+  at_made_source : status ≡ 3 → (text : List ℕ) → Refuses (made_source n) made_entry text → Says call.err_old call.err_new call.err_faults_old call.err_faults_new (text ++ newline) →
+      (call.seen).out_new ≡ (call.seen).out_old → MakeEnding call status n
+  at_made_output : status ≡ 5 → Rose (call.seen).faults_old (call.seen).faults_new → WroteLastFirst n (call.seen).out_old (call.seen).out_new →
+      Says call.err_old call.err_new call.err_faults_old call.err_faults_new (codes "output failed" ++ newline) → MakeEnding call status n
+  at_made_memory : status ≡ 7 → LastStands n (call.seen).out_old (call.seen).out_new →
+      Says call.err_old call.err_new call.err_faults_old call.err_faults_new (codes "no memory" ++ newline) → MakeEnding call status n
 
 pub data Ending (call : Call) (status : ℕ) : Type 0 where
   at_words : (n : ℕ) → BadWord call.words n → status ≡ 2 → (call.seen).out_new ≡ (call.seen).out_old →
@@ -83,8 +103,9 @@ pub data Ending (call : Call) (status : ℕ) : Type 0 where
   at_output : status ≡ 5 → Rose (call.seen).faults_old (call.seen).faults_new → (task : Task) → Asks call.words task →
       WroteFirst (call.seen).held (call.seen).out_old (call.seen).out_new task →
       Says call.err_old call.err_new call.err_faults_old call.err_faults_new (codes "output failed" ++ newline) → Ending call status
-  at_memory : status ≡ 7 → PartStands call.words (call.seen).held (call.seen).out_old (call.seen).out_new →
+  at_memory : status ≡ 7 → (task : Task) → Asks call.words task → Stands (call.seen).held (call.seen).out_old (call.seen).out_new task →
       Says call.err_old call.err_new call.err_faults_old call.err_faults_new (codes "no memory" ++ newline) → Ending call status
+  at_make : (n : ℕ) → Accepted call.words (Make n) → MakeEnding call status n → Ending call status
 
 module _ (call : Call) (status : ℕ) (task : Task) (a : Asks call.words task) where
   abbrev Said : List ℕ → Type 0
@@ -100,21 +121,16 @@ module _ (call : Call) (status : ℕ) (task : Task) (a : Asks call.words task) w
   at_source_of text bytes read r silent h = at_source h.0 (record { task = task; asked = a; bytes = bytes; text = text; read = read; refused = r; said = h.1 }) silent
 
   no_memory : Stands (call.seen).held (call.seen).out_old (call.seen).out_new task → (status ≡ 7) × Said (codes "no memory") → Ending call status
-  no_memory p h = at_memory h.0 (record { task = task; asked = a; stands = p }) h.1
+  no_memory p h = at_memory h.0 task a p h.1
 
   -- a program that is accepted and refused for the task
   at_work : (w : Work) → task.work ≡ w → (why : Refusal) (text bytes : List ℕ) → ReadAs (call.seen).held task.file bytes → RefusesTask bytes task.entry w text → (call.seen).out_new ≡ (call.seen).out_old →
       (status ≡ 3) × Said text → Ending call status
   at_work w e why text bytes read r silent h = at_source_of text bytes read (subst (λ u. RefusesTask bytes task.entry u text) (sym e) r) silent h
 
-  at_not_yet : (w : Work) → task.work ≡ w → (bytes : List ℕ) → ReadAs (call.seen).held task.file bytes → SourceCause bytes task.entry w refusal.NotYet → (call.seen).out_new ≡ (call.seen).out_old →
-      (status ≡ 3) × Said (codes "run not yet") → Ending call status
-  at_not_yet (list b runs budget) e bytes read c silent h = at_work (list b runs budget) e refusal.NotYet _ bytes read (inr (c, refl)) silent h
-  at_not_yet (trace b map) e bytes read c silent h = absurd c
-
   at_map : (w : Work) → task.work ≡ w → (f : MapFault) → (bytes : List ℕ) → ReadAs (call.seen).held task.file bytes → SourceCause bytes task.entry w (refusal.Map f) → (call.seen).out_new ≡ (call.seen).out_old →
       (status ≡ 3) × Said (map_text_of f) → Ending call status
-  at_map (list b runs budget) e f bytes read c silent h = absurd c
+  at_map (list b runs budget after) e f bytes read c silent h = absurd c
   at_map (trace b map) e f bytes read c silent h = at_work (trace b map) e (refusal.Map f) _ bytes read (inr (f, c, refl)) silent h
 
   ending_of : (why : Refusal) → Cause call.seen task why →
@@ -128,8 +144,6 @@ module _ (call : Call) (status : ℕ) (task : Task) (a : Asks call.words task) w
   ending_of refusal.FileFailed c (inr h) = no_memory (nothing c.1) (h.1, h.2)
   ending_of (refusal.Source line wrong) c (inl h) = at_source_of _ c.bytes c.read (inl c.cause) c.silent h
   ending_of (refusal.Source line wrong) c (inr h) = no_memory (nothing c.silent) (h.1, h.2)
-  ending_of refusal.NotYet c (inl h) = at_not_yet task.work refl c.bytes c.read c.cause c.silent h
-  ending_of refusal.NotYet c (inr h) = absurd (cc h.0)
   ending_of refusal.NoEntry c (inl h) = at_source_of _ c.bytes c.read (inl c.cause) c.silent h
   ending_of refusal.NoEntry c (inr h) = no_memory (nothing c.silent) (h.1, h.2)
   ending_of (refusal.Map f) c (inl h) = at_map task.work refl f c.bytes c.read c.cause c.silent h
@@ -139,7 +153,44 @@ module _ (call : Call) (status : ℕ) (task : Task) (a : Asks call.words task) w
   ending_of refusal.NoMemory c (inl h) = no_memory c h
   ending_of refusal.NoMemory c (inr h) = absurd (cc h.0)
 
+module _ (call : Call) (status n : ℕ) where
+  abbrev SaidOf : List ℕ → Type 0
+  SaidOf text = Says call.err_old call.err_new call.err_faults_old call.err_faults_new (text ++ newline)
+
+  make_ending : (why : Refusal) → MadeCause n (call.seen).out_old (call.seen).out_new (call.seen).faults_old (call.seen).faults_new why →
+      IsAnswered call.err_old call.err_new call.err_faults_old call.err_faults_new [] made_entry why status → MakeEnding call status n
+  make_ending (refusal.Source line wrong) c (inl h) = at_made_source h.0 _ c.0 h.1 c.1
+  make_ending (refusal.Source line wrong) c (inr h) = at_made_memory h.1 (no_line c.1) h.2
+  make_ending refusal.NoEntry c (inl h) = at_made_source h.0 _ c.0 h.1 c.1
+  make_ending refusal.NoEntry c (inr h) = at_made_memory h.1 (no_line c.1) h.2
+  make_ending refusal.OutputFailed c (inl h) = at_made_output h.0 c.0 c.1 h.1
+  make_ending refusal.OutputFailed c (inr h) = absurd (cc h.0)
+  make_ending refusal.NoMemory c (inl h) = at_made_memory h.0 c h.1
+  make_ending refusal.NoMemory c (inr h) = absurd (cc h.0)
+  make_ending (refusal.BadWord k) c h = absurd c
+  make_ending refusal.Missing c h = absurd c
+  make_ending refusal.TooLong c h = absurd c
+  make_ending refusal.FileFailed c h = absurd c
+  make_ending (refusal.Map f) c h = absurd c
+
 pub ending : (call : Call) (status : ℕ) → Answered call status → Ending call status
 ending call status (bad n b e silent said) = at_words n b e silent said
 ending call status (done task a w quiet) = at_report task a (report_status w.bytes task.entry task.work w.text status w.report) w quiet
 ending call status (refused task why a c h) = ending_of call status task a why c h
+ending call status (made n a w e quiet) = at_make n a (at_line e w quiet)
+ending call status (unmade n why a c h) = at_make n a (make_ending call status n why c h)
+
+-- the statuses of `make`
+pub make_status : (call : Call) (status n : ℕ) → MakeEnding call status n → In status (0 ∷ 3 ∷ 5 ∷ 7 ∷ [])
+make_status call status n (at_line e w q) = inl e
+make_status call status n (at_made_source e t r s q) = inr (inl e)
+make_status call status n (at_made_output e r w t) = inr (inr (inl e))
+make_status call status n (at_made_memory e w t) = inr (inr (inr (inl e)))
+
+-- none of the others is one of them
+pub not_made : (status k : ℕ) → In status (0 ∷ 3 ∷ 5 ∷ 7 ∷ []) → status ≡ k → (k ≡ 0 → ⊥) → (k ≡ 3 → ⊥) → (k ≡ 5 → ⊥) → (k ≡ 7 → ⊥) → ⊥
+not_made status k (inl e) h a b c d = a (sym h ∙ e)
+not_made status k (inr (inl e)) h a b c d = b (sym h ∙ e)
+not_made status k (inr (inr (inl e))) h a b c d = c (sym h ∙ e)
+not_made status k (inr (inr (inr (inl e)))) h a b c d = d (sym h ∙ e)
+not_made status k (inr (inr (inr (inr e)))) h a b c d = e

@@ -17,11 +17,11 @@ use Rattle.concolic_cli.specs.declared.refusal.Wrong.{Wrong}
 use Rattle.concolic_cli.specs.declared.refusal.Wrong.TheVariants as wrong
 use Rattle.concolic_cli.specs.declared.refusal.Refusal.{Refusal}
 use Rattle.concolic_cli.specs.declared.refusal.Refusal.TheVariants as refused
-use Rattle.concolic_cli.specs.Listings.{AsksNothing}
+use Rattle.concolic_cli.specs.Made.{made_source, made_entry}
 use Rattle.concolic_cli.specs.Programs.{ReadsAs, IsLexical, IsFaulty, IsWrong, IsNoProgram}
 use Rattle.concolic_cli.specs.Refusals.{what_text}
-use Rattle.concolic_cli.specs.Session.{MapCause, SourceCause, WriteCause, Seen, WroteFirst, part, Cause}
-use Rattle.concolic_cli.specs.Sources.{offset_of, source_text, wrong_text, Refuses, lexical, syntax, too_deep, fault, no_entry}
+use Rattle.concolic_cli.specs.Session.{ReadAs, FileCause, MapCause, SourceCause, WriteCause, Seen, WroteFirst, part, Cause, nothing, LastStands, no_line, first_part, WroteLastFirst, MadeCause}
+use Rattle.concolic_cli.specs.Sources.{offset_of, source_text, wrong_text, no_entry_text, Refuses, lexical, syntax, too_deep, fault, no_entry}
 use Rattle.concolic_cli.specs.Tasks.{Task, Work, list, trace}
 
 -- a bad byte, number, comment or directive
@@ -48,7 +48,6 @@ wrong_cause bytes entry line wrong.TooDeep h = subst (λ l. Refuses bytes entry 
 -- a source that is no program with such a function is refused for that cause
 pub no_program_cause : (bytes entry : List ℕ) (work : Work) (e : Refusal) → IsNoProgram bytes entry e → SourceCause bytes entry work e
 no_program_cause bytes entry work (refused.Source line w) h = wrong_cause bytes entry line w h
-no_program_cause bytes entry work refused.NotYet h = absurd h
 no_program_cause bytes entry work refused.NoMemory h = tt
 no_program_cause bytes entry work (refused.BadWord n) h = h
 no_program_cause bytes entry work refused.Missing h = h
@@ -62,11 +61,6 @@ no_program_cause bytes entry work refused.OutputFailed h = h
 
 abbrev pub program_of : (bytes entry : List ℕ) (tokens : List Token) (c : Checked) → ReadsAs bytes entry tokens c → IsProgram bytes entry (core_of c)
 program_of bytes entry tokens c reads = record { tokens = tokens; checked = c; lexed = reads.lexed; read = reads.read; right = reads.right; core = refl }
-
--- its run on the base input asks something
-pub not_yet_cause : (bytes entry : List ℕ) (tokens : List Token) (c : Checked) (b : Limits) (runs budget : ℕ) → ReadsAs bytes entry tokens c → (AsksNothing (core_of c) b → ⊥) →
-    SourceCause bytes entry (list b runs budget) refused.NotYet
-not_yet_cause bytes entry tokens c b runs budget reads asks = record { program = core_of c; source = program_of bytes entry tokens c reads; asks = asks }
 
 abbrev pub read_as : Result Input Refusal → Result Input Refusal
 read_as r = r
@@ -82,13 +76,26 @@ map_cause bytes entry tokens c b map (refused.Map f) reads h whole =
     neither i (inr e) = cc e
 map_cause bytes entry tokens c b map refused.NoMemory reads h whole = tt
 map_cause bytes entry tokens c b map (refused.Source line w) reads h whole = absurd h
-map_cause bytes entry tokens c b map refused.NotYet reads h whole = absurd h
 map_cause bytes entry tokens c b map (refused.BadWord n) reads h whole = absurd h
 map_cause bytes entry tokens c b map refused.Missing reads h whole = absurd h
 map_cause bytes entry tokens c b map refused.TooLong reads h whole = absurd h
 map_cause bytes entry tokens c b map refused.FileFailed reads h whole = absurd h
 map_cause bytes entry tokens c b map refused.NoEntry reads h whole = absurd h
 map_cause bytes entry tokens c b map refused.OutputFailed reads h whole = absurd h
+
+-- ---- the file
+
+-- it is refused, and nothing was written
+pub file_cause : (seen : Seen) (task : Task) (e : Refusal) → FileCause seen.held seen.files_old seen.files_new task.file e → seen.out_new ≡ seen.out_old → Cause seen task e
+file_cause seen task refused.Missing h silent = (h, silent)
+file_cause seen task refused.TooLong h silent = (h, silent)
+file_cause seen task refused.FileFailed h silent = (h, silent)
+file_cause seen task refused.NoMemory h silent = nothing silent
+file_cause seen task (refused.BadWord n) h silent = absurd h
+file_cause seen task (refused.Source line w) h silent = absurd h
+file_cause seen task refused.NoEntry h silent = absurd h
+file_cause seen task (refused.Map f) h silent = absurd h
+file_cause seen task refused.OutputFailed h silent = absurd h
 
 -- ---- the output
 
@@ -101,6 +108,49 @@ write_failed seen task refused.Missing w h = absurd h
 write_failed seen task refused.TooLong w h = absurd h
 write_failed seen task refused.FileFailed w h = absurd h
 write_failed seen task (refused.Source line wrong) w h = absurd h
-write_failed seen task refused.NotYet w h = absurd h
 write_failed seen task refused.NoEntry w h = absurd h
 write_failed seen task (refused.Map f) w h = absurd h
+
+-- ---- a source that is no program
+
+-- a file's bytes are no program, and nothing was written
+pub source_refused : (seen : Seen) (task : Task) (e : Refusal) (bytes bytes' : List ℕ) → bytes' ≡ bytes → ReadAs seen.held task.file bytes → IsNoProgram bytes' task.entry e → seen.out_new ≡ seen.out_old → Cause seen task e
+source_refused seen task e bytes bytes' same read none silent = by_refusal e (no_program_cause bytes task.entry task.work e (subst (λ u. IsNoProgram u task.entry e) same none))
+  where
+    by_refusal : (e : Refusal) → SourceCause bytes task.entry task.work e → Cause seen task e
+    by_refusal (refused.Source line w) h = record { bytes = bytes; read = read; cause = h; silent = silent }
+    by_refusal refused.NoEntry h = record { bytes = bytes; read = read; cause = h; silent = silent }
+    by_refusal (refused.Map f) h = record { bytes = bytes; read = read; cause = h; silent = silent }
+    by_refusal refused.NoMemory h = nothing silent
+    by_refusal (refused.BadWord n) h = absurd h
+    by_refusal refused.Missing h = absurd h
+    by_refusal refused.TooLong h = absurd h
+    by_refusal refused.FileFailed h = absurd h
+    by_refusal refused.OutputFailed h = absurd h
+
+-- ---- `make`
+
+module _ (n : ℕ) (old new : Option (List ℕ)) (faults_old faults_new : ℕ) where
+  -- the made source is no program
+  pub made_refused : (source : List ℕ) (e : Refusal) → source ≡ made_source n → IsNoProgram source made_entry e → new ≡ old → MadeCause n old new faults_old faults_new e
+  made_refused source (refused.Source line w) same h silent = (wrong_cause (made_source n) made_entry line w (subst (λ u. IsWrong u line w) same h), silent)
+  made_refused source refused.NoEntry same h silent = (subst (λ u. Refuses u made_entry (no_entry_text made_entry)) same (no_entry h.0 h.1 (h.2).lexed (h.2).read (h.2).well_typed h.3), silent)
+  made_refused source refused.NoMemory same h silent = no_line silent
+  made_refused source (refused.Map f) same h silent = absurd h
+  made_refused source (refused.BadWord k) same h silent = absurd h
+  made_refused source refused.Missing same h silent = absurd h
+  made_refused source refused.TooLong same h silent = absurd h
+  made_refused source refused.FileFailed same h silent = absurd h
+  made_refused source refused.OutputFailed same h silent = absurd h
+
+  -- its line failed
+  pub line_failed : (e : Refusal) → WroteLastFirst n old new → WriteCause faults_old faults_new e → MadeCause n old new faults_old faults_new e
+  line_failed refused.OutputFailed w h = (h, w)
+  line_failed refused.NoMemory w h = first_part w
+  line_failed (refused.BadWord k) w h = absurd h
+  line_failed refused.Missing w h = absurd h
+  line_failed refused.TooLong w h = absurd h
+  line_failed refused.FileFailed w h = absurd h
+  line_failed (refused.Source line wrong) w h = absurd h
+  line_failed refused.NoEntry w h = absurd h
+  line_failed (refused.Map f) w h = absurd h

@@ -6,10 +6,13 @@ use Rattle.std.proofs.lemmas.Int.{ints}
 use Rattle.std.specs.Fmt.{signed_decimal}
 use Rattle.cc_base.specs.Limits.{Limits}
 use Rattle.cc_model.specs.declared.commands.Command.{Command}
-use Rattle.concolic_cli.specs.Words.{Row, Accepted, run, trace, Begins, BadWord, run_words, trace_words, IsNumber, IsGiven, AreNamed, AreBounds, run_options, trace_options, solver_option, depth_option}
+use Rattle.cc_model.specs.declared.commands.Command.TheVariants.{Make}
+use Rattle.concolic_cli.specs.declared.words.Takes.TheVariants.{PathText}
+use Rattle.concolic_cli.specs.Words.{Row, Accepted, run, trace, make, Begins, BadWord, run_words, trace_words, IsNumber, IsGiven, IsFine, behind, place_behind, AreNamed, AreBounds, run_options, trace_options, solver_option, depth_option}
 use Rattle.concolic_cli.specs.Options.{Fits, FitsWith, IsBadAt}
 use Rattle.concolic_cli.proofs.NamedWords.{Words, length_take}
 use Rattle.concolic_cli.proofs.Numerals.{one_number}
+use Rattle.concolic_cli.proofs.OptionFits.{option_given}
 use Rattle.concolic_cli.proofs.OptionTables.{run_table, trace_table, fits_nothing, has_bounds, given_natural, given_once, bounds_once, run_fits, trace_fits}
 
 -- ---- the forms
@@ -25,12 +28,13 @@ pub record IsRun (words : Words) (command : Command) : Type 0 where
   pub budget : ℕ
   pub bounds : Limits
   pub words_are : words ≡ codes "run" ∷ file ∷ entry ∷ n ∷ codes "-dfs" ∷ d ∷ options
-  pub command_is : command ≡ run_words runs bounds budget
+  pub command_is : command ≡ run_words runs bounds budget (place_behind (codes "-after") 6 options)
   pub runs_is : IsNumber n (pos 1) (pos 1000000) (pos runs)
   pub depth_is : IsNumber d (pos 1) (pos 1024) (pos bounds.depth)
   pub named : AreNamed run_options options
   pub bounds_are : AreBounds options bounds
   pub budget_is : IsGiven options solver_option (pos budget)
+  pub after_is : IsFine PathText (behind (codes "-after") options)
 
 -- an accepted list that begins with `trace`
 pub record IsTrace (words : Words) (command : Command) : Type 0 where
@@ -45,16 +49,48 @@ pub record IsTrace (words : Words) (command : Command) : Type 0 where
   pub bounds_are : AreBounds options bounds
   pub depth_is : IsGiven options depth_option (pos bounds.depth)
 
+-- an accepted list that begins with `make`
+pub record IsMake (words : Words) (command : Command) : Type 0 where
+  pub n : List ℕ
+  pub branches : ℕ
+  pub words_are : words ≡ codes "make" ∷ n ∷ []
+  pub command_is : command ≡ Make branches
+  pub branches_are : IsNumber n (pos 1) (pos 1024) (pos branches)
+
 -- an accepted list has one of the forms
-pub form_of : (words : Words) (command : Command) → Accepted words command → IsRun words command ⊎ IsTrace words command
-form_of _ _ (run f e n d o r b l x y z u v) = inl (record { file = f; entry = e; n = n; d = d; options = o; runs = r; budget = b; bounds = l; words_are = refl; command_is = refl; runs_is = x; depth_is = y; named = z; bounds_are = u; budget_is = v })
-form_of _ _ (trace f e m o l z u v) = inr (record { file = f; entry = e; input = m; options = o; bounds = l; words_are = refl; command_is = refl; named = z; bounds_are = u; depth_is = v })
+pub data Form (words : Words) (command : Command) : Type 0 where
+  a_run : IsRun words command → Form words command
+  a_trace : IsTrace words command → Form words command
+  a_make : IsMake words command → Form words command
+
+pub form_of : (words : Words) (command : Command) → Accepted words command → Form words command
+form_of _ _ (run f e n d o r b l x y z u v w) = a_run (record { file = f; entry = e; n = n; d = d; options = o; runs = r; budget = b; bounds = l; words_are = refl; command_is = refl; runs_is = x; depth_is = y; named = z; bounds_are = u; budget_is = v; after_is = w })
+form_of _ _ (trace f e m o l z u v) = a_trace (record { file = f; entry = e; input = m; options = o; bounds = l; words_are = refl; command_is = refl; named = z; bounds_are = u; depth_is = v })
+form_of _ _ (make n k x) = a_make (record { n = n; branches = k; words_are = refl; command_is = refl; branches_are = x })
 
 pub run_of : (rest : Words) (command : Command) → Accepted (codes "run" ∷ rest) command → IsRun (codes "run" ∷ rest) command
-run_of rest command a = ⊎_elim (λ r. r) (λ t. absurd (cc t.words_are)) (form_of (codes "run" ∷ rest) command a)
+run_of rest command a = by_form (form_of (codes "run" ∷ rest) command a)
+  where
+    by_form : Form (codes "run" ∷ rest) command → IsRun (codes "run" ∷ rest) command
+    by_form (a_run r) = r
+    by_form (a_trace t) = let e = t.words_are in absurd (cc e)
+    by_form (a_make m) = let e = m.words_are in absurd (cc e)
 
 pub trace_of : (rest : Words) (command : Command) → Accepted (codes "trace" ∷ rest) command → IsTrace (codes "trace" ∷ rest) command
-trace_of rest command a = ⊎_elim (λ r. absurd (cc r.words_are)) (λ t. t) (form_of (codes "trace" ∷ rest) command a)
+trace_of rest command a = by_form (form_of (codes "trace" ∷ rest) command a)
+  where
+    by_form : Form (codes "trace" ∷ rest) command → IsTrace (codes "trace" ∷ rest) command
+    by_form (a_run r) = let e = r.words_are in absurd (cc e)
+    by_form (a_trace t) = t
+    by_form (a_make m) = let e = m.words_are in absurd (cc e)
+
+pub make_of : (rest : Words) (command : Command) → Accepted (codes "make" ∷ rest) command → IsMake (codes "make" ∷ rest) command
+make_of rest command a = by_form (form_of (codes "make" ∷ rest) command a)
+  where
+    by_form : Form (codes "make" ∷ rest) command → IsMake (codes "make" ∷ rest) command
+    by_form (a_run r) = let e = r.words_are in absurd (cc e)
+    by_form (a_trace t) = let e = t.words_are in absurd (cc e)
+    by_form (a_make m) = m
 
 -- ---- a list of words with a part read
 
@@ -111,12 +147,14 @@ pub accepted_run : (f e n d : List ℕ) (options : Words) (runs depth : ℕ) →
     → (command : Command) × Accepted (codes "run" ∷ f ∷ e ∷ n ∷ codes "-dfs" ∷ d ∷ options) command
 accepted_run f e n d options runs depth r s fits =
     let b = has_bounds run_options run_table options depth fits in
-    let budget = given_natural options solver_option refl (fits.given (codes "-solver") solver_option.1 refl) in
-    (run_words runs b.0 budget.0, run f e n d options runs budget.0 b.0 r (subst (λ k. IsNumber d (pos 1) (pos 1024) (pos k)) (sym b.2) s) fits.named b.1 budget.1)
+    let budget = given_natural options solver_option refl (option_given run_options run_table options fits (codes "-solver") solver_option.1 refl) in (
+      run_words runs b.0 budget.0 (place_behind (codes "-after") 6 options),
+      run f e n d options runs budget.0 b.0 r (subst (λ k. IsNumber d (pos 1) (pos 1024) (pos k)) (sym b.2) s) fits.named b.1 budget.1 (fits.given (codes "-after") PathText refl),
+    )
 
 pub accepted_trace : (f e m : List ℕ) (options : Words) → Fits trace_options options → (command : Command) × Accepted (codes "trace" ∷ f ∷ e ∷ m ∷ options) command
 accepted_trace f e m options fits =
-    let depth = given_natural options depth_option refl (fits.given (codes "-depth") depth_option.1 refl) in
+    let depth = given_natural options depth_option refl (option_given trace_options trace_table options fits (codes "-depth") depth_option.1 refl) in
     let b = has_bounds trace_options trace_table options depth.0 fits in
     (trace_words b.0, trace f e m options b.0 fits.named b.1 (subst (λ k. IsGiven options depth_option (pos k)) (sym b.2) depth.1))
 
@@ -135,15 +173,49 @@ deep : IsNumber text_of_one (pos 1) (pos 1024) (pos 1)
 unfolding text_of_one
 deep = record { text = refl; at_least = omega (arith, ints); at_most = omega (arith, ints) }
 
--- word 1 is `run` or `trace`
-pub bad_1 : (words : Words) → ((rest : Words) → words ≡ codes "run" ∷ rest → ⊥) → ((rest : Words) → words ≡ codes "trace" ∷ rest → ⊥) → BadWord words 1
-bad_1 words no_run no_trace =
-    bad_after [] words refl (begins_trace 0 [] [] []) (λ tail command g a.
-    ⊎_elim (λ r. begun words tail g (codes "run") _ r.words_are no_run) (λ t. begun words tail g (codes "trace") _ t.words_are no_trace) (form_of tail command a))
+begins_make : (k : ℕ) → Begins (take k (codes "make" ∷ text_of_one ∷ []))
+begins_make k = begins_take (codes "make" ∷ text_of_one ∷ []) k ([], Make 1, make text_of_one 1 deep)
+
+-- word 1 is `run`, `trace` or `make`
+pub bad_1 : (words : Words) → ((rest : Words) → words ≡ codes "run" ∷ rest → ⊥) → ((rest : Words) → words ≡ codes "trace" ∷ rest → ⊥) → ((rest : Words) → words ≡ codes "make" ∷ rest → ⊥) → BadWord words 1
+bad_1 words no_run no_trace no_make =
+    bad_after [] words refl (begins_trace 0 [] [] []) (λ tail command g a. by_form tail command g (form_of tail command a))
   where
     begun : (words tail : Words) → GoesOn words tail → (w : List ℕ) (later : Words) → tail ≡ w ∷ later → ((rest : Words) → words ≡ w ∷ rest → ⊥) → ⊥
     begun _ _ ends w later e none = cc e
     begun _ _ (word v more others) w later e none = none more (cc e)
+
+    by_form : (tail : Words) (command : Command) → GoesOn words tail → Form tail command → ⊥
+    by_form tail command g (a_run r) = begun words tail g (codes "run") _ r.words_are no_run
+    by_form tail command g (a_trace t) = begun words tail g (codes "trace") _ t.words_are no_trace
+    by_form tail command g (a_make m) = begun words tail g (codes "make") _ m.words_are no_make
+
+-- `make`: word 2 is the number of branches
+pub make_2 : {l1 : Words} → ((w : List ℕ) (rest : Words) (n : ℕ) → l1 ≡ w ∷ rest → IsNumber w (pos 1) (pos 1024) (pos n) → ⊥) → BadWord (codes "make" ∷ l1) 2
+make_2 {l1} none = bad_after (codes "make" ∷ []) l1 refl (begins_make 1) (λ tail command g a. ended l1 tail g none command a)
+  where
+    ended : (l tail : Words) → GoesOn l tail → ((w : List ℕ) (rest : Words) (n : ℕ) → l ≡ w ∷ rest → IsNumber w (pos 1) (pos 1024) (pos n) → ⊥)
+        → (command : Command) → Accepted (codes "make" ∷ tail) command → ⊥
+    ended _ _ ends none command a = let e = (make_of [] command a).words_are in cc e
+    ended _ _ (word w more later) none command a =
+        let r = make_of (w ∷ later) command a in
+        let words_are = r.words_are in
+        let same : r.n ≡ w = cc words_are in
+        none w more r.branches refl (subst (λ m. IsNumber m (pos 1) (pos 1024) (pos r.branches)) same r.branches_are)
+
+-- nothing stands behind it
+pub make_3 : {l1 l2 l3 : Words} {w u : List ℕ} {n : ℕ} → l1 ≡ w ∷ l2 → IsNumber w (pos 1) (pos 1024) (pos n) → l2 ≡ u ∷ l3 → BadWord (codes "make" ∷ l1) 3
+make_3 {l1} {l2} {l3} {w} {u} {n} e1 r e2 =
+    bad_after (codes "make" ∷ w ∷ []) (u ∷ l3) (cc (e1, e2)) ([], Make n, make w n r) (λ tail command g a. ended (u ∷ l3) tail u l3 refl g command a)
+  where
+    ended : (l tail : Words) (v : List ℕ) (m : Words) → l ≡ v ∷ m → GoesOn l tail → (command : Command) → Accepted (codes "make" ∷ w ∷ tail) command → ⊥
+    ended _ _ v m e ends command a = cc e
+    ended _ _ v m e (word x more later) command a = let f = (make_of (w ∷ x ∷ later) command a).words_are in cc f
+
+pub make_whole : {l1 l2 : Words} {w : List ℕ} {n : ℕ} → l1 ≡ w ∷ l2 → IsNumber w (pos 1) (pos 1024) (pos n) → l2 ≡ [] → Accepted (codes "make" ∷ l1) (Make n)
+make_whole {l1} {l2} {w} {n} e1 r e2 =
+    let whole : codes "make" ∷ l1 ≡ codes "make" ∷ w ∷ [] = cc (e1, e2) in
+    subst (λ (ws : Words). Accepted ws (Make n)) (sym whole) (make w n r)
 
 -- `run`: word 2 is any word; below, l1 is what stands behind word 1, and so on
 pub run_2 : {l1 : Words} → l1 ≡ [] → BadWord (codes "run" ∷ l1) 2
@@ -278,7 +350,7 @@ run_bad {l1} {l2} {l3} {l4} {l5} {l6} {f} {e} {w} {u} {n} {d} {m} e1 e2 e3 r e4 
     parsed o command a =
         let g = run_of (f ∷ e ∷ w ∷ codes "-dfs" ∷ u ∷ o) command a in
         let same : g.options ≡ o = cc g.words_are in
-        subst (Fits run_options) same (run_fits g.options g.bounds g.budget g.named g.bounds_are g.budget_is)
+        subst (Fits run_options) same (run_fits g.options g.bounds g.budget g.named g.bounds_are g.budget_is g.after_is)
 
 -- a bad word of the options of `trace`
 pub trace_bad : {l1 l2 l3 l4 : Words} {f e w : List ℕ} {m : ℕ} → l1 ≡ f ∷ l2 → l2 ≡ e ∷ l3 → l3 ≡ w ∷ l4 → IsBadAt trace_options l4 m → BadWord (codes "trace" ∷ l1) (m + 5)
@@ -296,11 +368,11 @@ trace_bad {l1} {l2} {l3} {l4} {f} {e} {w} {m} e1 e2 e3 b =
 -- ---- the whole list
 
 pub run_whole : {l1 l2 l3 l4 l5 l6 : Words} {f e w u : List ℕ} {n budget : ℕ} {bounds : Limits} → l1 ≡ f ∷ l2 → l2 ≡ e ∷ l3 → l3 ≡ w ∷ l4 → IsNumber w (pos 1) (pos 1000000) (pos n) → l4 ≡ codes "-dfs" ∷ l5
-    → l5 ≡ u ∷ l6 → IsNumber u (pos 1) (pos 1024) (pos bounds.depth) → AreNamed run_options l6 → AreBounds l6 bounds → IsGiven l6 solver_option (pos budget)
-    → Accepted (codes "run" ∷ l1) (run_words n bounds budget)
-run_whole {l1} {l2} {l3} {l4} {l5} {l6} {f} {e} {w} {u} {n} {budget} {bounds} e1 e2 e3 r e4 e5 s a g b =
+    → l5 ≡ u ∷ l6 → IsNumber u (pos 1) (pos 1024) (pos bounds.depth) → AreNamed run_options l6 → AreBounds l6 bounds → IsGiven l6 solver_option (pos budget) → IsFine PathText (behind (codes "-after") l6)
+    → Accepted (codes "run" ∷ l1) (run_words n bounds budget (place_behind (codes "-after") 6 l6))
+run_whole {l1} {l2} {l3} {l4} {l5} {l6} {f} {e} {w} {u} {n} {budget} {bounds} e1 e2 e3 r e4 e5 s a g b p =
     let whole : codes "run" ∷ l1 ≡ codes "run" ∷ f ∷ e ∷ w ∷ codes "-dfs" ∷ u ∷ l6 = cc (e1, e2, e3, e4, e5) in
-    subst (λ (ws : Words). Accepted ws (run_words n bounds budget)) (sym whole) (run f e w u l6 n budget bounds r s a g b)
+    subst (λ (ws : Words). Accepted ws (run_words n bounds budget (place_behind (codes "-after") 6 l6))) (sym whole) (run f e w u l6 n budget bounds r s a g b p)
 
 pub trace_whole : {l1 l2 l3 l4 : Words} {f e w : List ℕ} {bounds : Limits} → l1 ≡ f ∷ l2 → l2 ≡ e ∷ l3 → l3 ≡ w ∷ l4 → AreNamed trace_options l4 → AreBounds l4 bounds → IsGiven l4 depth_option (pos bounds.depth)
     → Accepted (codes "trace" ∷ l1) (trace_words bounds)
@@ -336,7 +408,8 @@ run_once words c d f g =
     let budgets : pos f.budget ≡ pos g.budget = given_once f.options solver_option (pos f.budget) (pos g.budget) (omega arith) (omega arith) f.budget_is (subst (λ (ws : Words). IsGiven ws solver_option (pos g.budget)) o_same g.budget_is) in
     let run_same : f.runs ≡ g.runs = cc runs in
     let budget : f.budget ≡ g.budget = cc budgets in
-    let commands : run_words f.runs f.bounds f.budget ≡ run_words g.runs g.bounds g.budget = λ i. run_words (run_same i) (bounds i) (budget i) in
+    let places : place_behind (codes "-after") 6 f.options ≡ place_behind (codes "-after") 6 g.options = ap (λ (ws : Words). place_behind (codes "-after") 6 ws) (sym o_same) in
+    let commands : run_words f.runs f.bounds f.budget (place_behind (codes "-after") 6 f.options) ≡ run_words g.runs g.bounds g.budget (place_behind (codes "-after") 6 g.options) = λ i. run_words (run_same i) (bounds i) (budget i) (places i) in
     f.command_is ∙ commands ∙ sym g.command_is
 
 trace_once : (words : Words) (c d : Command) → IsTrace words c → IsTrace words d → c ≡ d
@@ -348,15 +421,28 @@ trace_once words c d f g =
     let bounds : f.bounds ≡ g.bounds = bounds_once f.options f.bounds g.bounds f.bounds_are (subst (λ (ws : Words). AreBounds ws g.bounds) o_same g.bounds_are) depth in
     f.command_is ∙ ap trace_words bounds ∙ sym g.command_is
 
+make_once : (words : Words) (c d : Command) → IsMake words c → IsMake words d → c ≡ d
+make_once words c d f g =
+    let same : codes "make" ∷ f.n ∷ [] ≡ codes "make" ∷ g.n ∷ [] = sym f.words_are ∙ g.words_are in
+    let n_same : g.n ≡ f.n = cc same in
+    let numbers : pos f.branches ≡ pos g.branches = one_number f.n (pos 1) (pos 1024) (pos f.branches) (pos g.branches) (omega arith) (omega arith) f.branches_are (subst (λ w. IsNumber w (pos 1) (pos 1024) (pos g.branches)) n_same g.branches_are) in
+    let branches : f.branches ≡ g.branches = cc numbers in
+    f.command_is ∙ ap Make branches ∙ sym g.command_is
+
 -- an accepted list gives one command
 pub accepted_once : (words : Words) (c d : Command) → Accepted words c → Accepted words d → c ≡ d
 accepted_once words c d a b = by_form (form_of words c a) (form_of words d b)
   where
-    by_form : IsRun words c ⊎ IsTrace words c → IsRun words d ⊎ IsTrace words d → c ≡ d
-    by_form (inl f) (inl g) = run_once words c d f g
-    by_form (inr f) (inr g) = trace_once words c d f g
-    by_form (inl f) (inr g) = let e = sym f.words_are ∙ g.words_are in absurd (cc e)
-    by_form (inr f) (inl g) = let e = sym f.words_are ∙ g.words_are in absurd (cc e)
+    by_form : Form words c → Form words d → c ≡ d
+    by_form (a_run f) (a_run g) = run_once words c d f g
+    by_form (a_trace f) (a_trace g) = trace_once words c d f g
+    by_form (a_make f) (a_make g) = make_once words c d f g
+    by_form (a_run f) (a_trace g) = let e = sym f.words_are ∙ g.words_are in absurd (cc e)
+    by_form (a_run f) (a_make g) = let e = sym f.words_are ∙ g.words_are in absurd (cc e)
+    by_form (a_trace f) (a_run g) = let e = sym f.words_are ∙ g.words_are in absurd (cc e)
+    by_form (a_trace f) (a_make g) = let e = sym f.words_are ∙ g.words_are in absurd (cc e)
+    by_form (a_make f) (a_run g) = let e = sym f.words_are ∙ g.words_are in absurd (cc e)
+    by_form (a_make f) (a_trace g) = let e = sym f.words_are ∙ g.words_are in absurd (cc e)
 
 -- ---- an answer
 

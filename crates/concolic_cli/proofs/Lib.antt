@@ -1,15 +1,18 @@
 pub mod Numerals
 pub mod NamedWords
+mod PathWords
+mod PathReads
 mod OptionFits
 mod OptionReads
 mod OptionTables
 pub mod Forms
-mod OneRun
 mod OneText
 mod MapRefusals
 mod TraceLines
-mod Asking
+mod Searches
 mod Written
+mod Sessions
+mod MadeText
 mod Causes
 mod Reports
 mod Commands

@@ -3,8 +3,8 @@ use Rattle.std.proofs.Common.{◌≡◌, ◌∙◌, sym, ap, refl, subst, ℕ, z
 use Rattle.std.specs.Prelude.{bytes_eq, IfNone}
 use Rattle.std.specs.Fmt.{signed_decimal}
 use Rattle.std.proofs.lemmas.Slice.Eq.{bytes_eq-Decides}
-use Rattle.concolic_cli.specs.declared.words.Range.{Range}
-use Rattle.concolic_cli.specs.Words.{Row, range_of, AreNamed, behind, IsGiven}
+use Rattle.concolic_cli.specs.declared.words.Takes.{Takes}
+use Rattle.concolic_cli.specs.Words.{Row, takes_of, AreNamed, behind, IsFine}
 
 abbrev pub Words : Type 0
 Words = List (List ℕ)
@@ -60,14 +60,14 @@ abbrev pub Every : (Row → Type 0) → List Row → Type 0
 Every P [] = Unit
 Every P (row ∷ rows) = P row × Every P rows
 
-pub found : (P : Row → Type 0) (options : List Row) → Every P options → (name : List ℕ) (range : Range) → range_of options name ≡ Some range → P (name, range)
-found P [] all name range e = absurd (cc e)
-found P (row ∷ rows) all name range e = by_test (bytes_eq name row.0) refl (λ h. found P rows all.1 name range h) e
+pub found : (P : Row → Type 0) (options : List Row) → Every P options → (name : List ℕ) (takes : Takes) → takes_of options name ≡ Some takes → P (name, takes)
+found P [] all name takes e = absurd (cc e)
+found P (row ∷ rows) all name takes e = by_test (bytes_eq name row.0) refl (λ h. found P rows all.1 name takes h) e
   where
-    by_test : (b : Bool) → bytes_eq name row.0 ≡ b → (range_of rows name ≡ Some range → P (name, range)) → (if b then Some row.1 else range_of rows name) ≡ Some range → P (name, range)
+    by_test : (b : Bool) → bytes_eq name row.0 ≡ b → (takes_of rows name ≡ Some takes → P (name, takes)) → (if b then Some row.1 else takes_of rows name) ≡ Some takes → P (name, takes)
     by_test true t later e =
         let n : row.0 ≡ name = sym (same_name name row.0 t) in
-        let r : row.1 ≡ range = cc e in
+        let r : row.1 ≡ takes = cc e in
         subst (λ s. P (name, s)) r (subst (λ m. P (m, row.1)) n all.0)
     by_test false t later e = later e
 
@@ -86,11 +86,11 @@ pair_adds (row ∷ rows) w v rest = by_test (bytes_eq w row.0) (pair_adds rows w
     by_test true h = omega arith
     by_test false h = omega arith
 
-pair_counts : (rows : List Row) (w v : List ℕ) (rest : Words) → IsSome (range_of rows w) → suc (total rows rest) ≤ total rows (w ∷ v ∷ rest)
+pair_counts : (rows : List Row) (w v : List ℕ) (rest : Words) → IsSome (takes_of rows w) → suc (total rows rest) ≤ total rows (w ∷ v ∷ rest)
 pair_counts [] w v rest h = absurd (cc h)
 pair_counts (row ∷ rows) w v rest h = by_test (bytes_eq w row.0) (λ k. pair_counts rows w v rest k) h
   where
-    by_test : (b : Bool) → (IsSome (range_of rows w) → suc (total rows rest) ≤ total rows (w ∷ v ∷ rest)) → IsSome (if b then Some row.1 else range_of rows w)
+    by_test : (b : Bool) → (IsSome (takes_of rows w) → suc (total rows rest) ≤ total rows (w ∷ v ∷ rest)) → IsSome (if b then Some row.1 else takes_of rows w)
         → suc (length (behind row.0 rest) + total rows rest) ≤ length (if b then v ∷ behind row.0 rest else behind row.0 rest) + total rows (w ∷ v ∷ rest)
     by_test true later k = let p = pair_adds rows w v rest in omega arith
     by_test false later k = let p = later k in omega arith
@@ -103,12 +103,9 @@ named_count rows (w ∷ v ∷ rest) h =
     let q = named_count rows rest h.1 in
     omega arith
 
-pub at_most_once : (words : Words) (option : Row) (z : ℤ) → IsGiven words option z → length (behind option.0 words) ≤ 1
-at_most_once words option z g = by_stand g.stands
-  where
-    by_stand : (behind option.0 words ≡ signed_decimal z ∷ []) ⊎ ((behind option.0 words ≡ []) × (z ≡ (option.1).default)) → length (behind option.0 words) ≤ 1
-    by_stand (inl e) = rw e (omega arith)
-    by_stand (inr p) = rw p.0 (omega arith)
+pub at_most_once : (takes : Takes) (words : Words) → IsFine takes words → length words ≤ 1
+at_most_once takes words (inl e) = rw e (omega arith)
+at_most_once takes words (inr p) = rw p.1 (omega arith)
 
 -- ---- as the code reads
 

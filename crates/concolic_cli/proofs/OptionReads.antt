@@ -3,8 +3,8 @@ use Rattle.std.proofs.Common.{◌≡◌, ◌∙◌, sym, ap, refl, subst, ℕ, s
 use Rattle.std.specs.Prelude.{String, string_bytes, IfSome, IfNone}
 use Rattle.std.specs.declared.alloc.Global.{Global}
 use Rattle.std.proofs.lemmas.List.{take_at}
-use Rattle.concolic_cli.specs.declared.words.Range.{Range}
-use Rattle.concolic_cli.specs.Words.{Row, texts, range_of, behind, IsGiven, IsNumber, min_option, max_option}
+use Rattle.concolic_cli.specs.declared.words.Takes.{Takes}
+use Rattle.concolic_cli.specs.Words.{Row, texts, takes_of, behind, IsGiven, IsValue, min_option, max_option}
 use Rattle.concolic_cli.specs.Options.{IsTable, Fits, FitsWith, IsBadAt}
 use Rattle.concolic_cli.proofs.NamedWords.{Words, append_nil}
 use Rattle.concolic_cli.proofs.OptionFits.{IsNew, new_fits, default_fits, bad_name, bad_twice, bad_end, bad_value, bad_order}
@@ -42,22 +42,22 @@ module _ (options : List Row) (all good : Words) {l l2 : Words} {w : List ℕ} {
   next : IsBadAt options (good ++ w ∷ l2) (length good + 1) → IsBadAt options all (at + 1)
   next b = subst (λ n. IsBadAt options all (n + 1)) place (subst (λ (ws : Words). IsBadAt options ws (length good + 1)) (sym named) b)
 
-  pub read_name : range_of options w ≡ None → Fits options good → IsBadAt options all at
+  pub read_name : takes_of options w ≡ None → Fits options good → IsBadAt options all at
   read_name e f = here (bad_name options good l2 w f e)
 
-  pub read_twice : {range : Range} {v : List ℕ} {m : Words} → range_of options w ≡ Some range → behind w good ≡ v ∷ m → Fits options good → IsBadAt options all at
-  read_twice {range} {v} {m} e o f = here (bad_twice options good l2 w v m range f e o)
+  pub read_twice : {takes : Takes} {v : List ℕ} {m : Words} → takes_of options w ≡ Some takes → behind w good ≡ v ∷ m → Fits options good → IsBadAt options all at
+  read_twice {takes} {v} {m} e o f = here (bad_twice options good l2 w v m takes f e o)
 
-  pub read_again : {range : Range} → range_of options w ≡ Some range → (behind w good ≡ [] → ⊥) → Fits options good → IsBadAt options all at
-  read_again {range} e o f = by_list (behind w good) refl
+  pub read_again : {takes : Takes} → takes_of options w ≡ Some takes → (behind w good ≡ [] → ⊥) → Fits options good → IsBadAt options all at
+  read_again {takes} e o f = by_list (behind w good) refl
     where
       by_list : (m : Words) → behind w good ≡ m → IsBadAt options all at
       by_list [] h = absurd (o h)
-      by_list (v ∷ m) h = read_twice {range = range} {v = v} {m = m} e h f
+      by_list (v ∷ m) h = read_twice {takes = takes} {v = v} {m = m} e h f
 
-  module _ {range : Range} (e : range_of options w ≡ Some range) (o : behind w good ≡ []) (table : IsTable options) (f : Fits options good) where
+  module _ {takes : Takes} (e : takes_of options w ≡ Some takes) (o : behind w good ≡ []) (table : IsTable options) (f : Fits options good) where
     starts : FitsWith options (good ++ w ∷ [])
-    starts = default_fits options table good w range f e o
+    starts = default_fits options table good w takes f e o
 
     pub read_end : l2 ≡ [] → IsBadAt options all (at + 1)
     read_end none = next (subst (λ (m : Words). IsBadAt options (good ++ w ∷ m) (length good + 1)) (sym none) (bad_end options good w f starts))
@@ -66,15 +66,15 @@ module _ (options : List Row) (all good : Words) {l l2 : Words} {w : List ℕ} {
       behind_it : IsBadAt options (good ++ w ∷ v ∷ l3) (length good + 1) → IsBadAt options all (at + 1)
       behind_it b = next (subst (λ (m : Words). IsBadAt options (good ++ w ∷ m) (length good + 1)) (sym value) b)
 
-      pub read_value : ((z : ℤ) → IsNumber v range.least range.greatest z → ⊥) → IsBadAt options all (at + 1)
-      read_value none = behind_it (bad_value options good l3 w v range f starts e o none)
+      pub read_value : (IsValue takes v → ⊥) → IsBadAt options all (at + 1)
+      read_value none = behind_it (bad_value options good l3 w v takes f starts e o none)
 
-      module _ {z : ℤ} (number : IsNumber v range.least range.greatest z) {some : Words} (some_are : some ≡ good ++ w ∷ v ∷ []) where
-        is_new : IsNew options good w v range z
-        is_new = record { fits = f; finds = e; once = o; number = number }
+      module _ (fine : IsValue takes v) {some : Words} (some_are : some ≡ good ++ w ∷ v ∷ []) where
+        is_new : IsNew options good w v takes
+        is_new = record { fits = f; finds = e; once = o; value = fine }
 
         pub read_order : ((lo hi : ℤ) → IsGiven some min_option lo → IsGiven some max_option hi → lo ≤ℤ hi → ⊥) → IsBadAt options all (at + 1)
-        read_order none = behind_it (bad_order options table good l3 w v range z is_new starts (subst (λ (ws : Words). (lo hi : ℤ) → IsGiven ws min_option lo → IsGiven ws max_option hi → lo ≤ℤ hi → ⊥) some_are none))
+        read_order none = behind_it (bad_order options table good l3 w v takes is_new starts (subst (λ (ws : Words). (lo hi : ℤ) → IsGiven ws min_option lo → IsGiven ws max_option hi → lo ≤ℤ hi → ⊥) some_are none))
 
         pub read_pair : ((lo hi : ℤ) → IsGiven some min_option lo → IsGiven some max_option hi → lo ≤ℤ hi) → Fits options some
         read_pair ordered = subst (Fits options) (sym some_are) (new_fits is_new (subst (λ (ws : Words). (lo hi : ℤ) → IsGiven ws min_option lo → IsGiven ws max_option hi → lo ≤ℤ hi) some_are ordered))

@@ -4,61 +4,78 @@ use Rattle.std.specs.Fmt.{signed_decimal}
 use Rattle.std.proofs.lemmas.Int.{ints}
 use lib.Signed.{mag}
 use Rattle.cc_base.specs.Limits.{Limits}
-use Rattle.concolic_cli.specs.Words.{Row, AreNamed, behind, IsGiven, AreBounds, min_option, max_option, objects_option, steps_option, depth_option, solver_option, run_options, trace_options}
+use Rattle.concolic_cli.specs.declared.words.Range.{Range}
+use Rattle.concolic_cli.specs.declared.words.Takes.{Takes}
+use Rattle.concolic_cli.specs.declared.words.Takes.TheVariants.{Number, PathText}
+use Rattle.concolic_cli.specs.Words.{Row, NumberRow, row, after_option, AreNamed, behind, IsFine, IsGiven, AreBounds, min_option, max_option, objects_option, steps_option, depth_option, solver_option, run_options, trace_options}
 use Rattle.concolic_cli.specs.Options.{IsTable, Fits, FitsWith, IsBadAt}
 use Rattle.concolic_cli.proofs.NamedWords.{Words, length_take, found, named_count, at_most_once}
 use Rattle.concolic_cli.proofs.Numerals.{text_once, mag_between}
+use Rattle.concolic_cli.proofs.OptionFits.{option_given, given_fine}
 
-HasDefault : Row → Type 0
-HasDefault row = ((row.1).least ≤ℤ (row.1).default) × ((row.1).default ≤ℤ (row.1).greatest)
+HasDefault : NumberRow → Type 0
+HasDefault option = ((option.1).least ≤ℤ (option.1).default) × ((option.1).default ≤ℤ (option.1).greatest)
+
+-- a number that an option takes has its default
+HasDefaults : Row → Type 0
+HasDefaults option = (range : Range) → option.1 ≡ Number range → HasDefault (option.0, range)
+
+default_of : (option : NumberRow) → HasDefault option → HasDefaults (row option)
+unfolding HasDefault HasDefaults
+default_of option h range e = let same : option.1 ≡ range = cc e in subst (λ r. HasDefault (option.0, r)) same h
+
+no_number : HasDefaults after_option
+unfolding HasDefaults
+no_number range e = absurd (cc e)
 
 pub run_table : IsTable run_options
-unfolding HasDefault
+unfolding HasDefault HasDefaults
 run_table = record {
   has_min = refl;
   has_max = refl;
   has_objects = refl;
   has_steps = refl;
-  defaults = λ name range e. found HasDefault run_options
-      ((omega (arith, ints), omega (arith, ints)), ((omega (arith, ints), omega (arith, ints)), ((omega (arith, ints), omega (arith, ints)), ((omega (arith, ints), omega (arith, ints)), ((omega (arith, ints), omega (arith, ints)), tt))))) name range e;
+  defaults = λ name range e. found HasDefaults run_options
+      (default_of min_option (omega (arith, ints), omega (arith, ints)), (default_of max_option (omega (arith, ints), omega (arith, ints)), (default_of objects_option (omega (arith, ints), omega (arith, ints)), (default_of steps_option (omega (arith, ints), omega (arith, ints)), (default_of solver_option (omega (arith, ints), omega (arith, ints)), (no_number, tt)))))) name (Number range) e range refl;
 }
 
 pub trace_table : IsTable trace_options
-unfolding HasDefault
+unfolding HasDefault HasDefaults
 trace_table = record {
   has_min = refl;
   has_max = refl;
   has_objects = refl;
   has_steps = refl;
-  defaults = λ name range e. found HasDefault trace_options
-      ((omega (arith, ints), omega (arith, ints)), ((omega (arith, ints), omega (arith, ints)), ((omega (arith, ints), omega (arith, ints)), ((omega (arith, ints), omega (arith, ints)), ((omega (arith, ints), omega (arith, ints)), tt))))) name range e;
+  defaults = λ name range e. found HasDefaults trace_options
+      (default_of min_option (omega (arith, ints), omega (arith, ints)), (default_of max_option (omega (arith, ints), omega (arith, ints)), (default_of objects_option (omega (arith, ints), omega (arith, ints)), (default_of steps_option (omega (arith, ints), omega (arith, ints)), (default_of depth_option (omega (arith, ints), omega (arith, ints)), tt))))) name (Number range) e range refl;
 }
 
 -- ---- how many words there are
 
-run_short : (words : Words) → Fits run_options words → length words ≤ 10
+pub run_short : (words : Words) → Fits run_options words → length words ≤ 12
 run_short words f =
-    let a = f.given (codes "-min") min_option.1 refl in
-    let b = f.given (codes "-max") max_option.1 refl in
-    let d = f.given (codes "-objects") objects_option.1 refl in
-    let e = f.given (codes "-steps") steps_option.1 refl in
-    let g = f.given (codes "-solver") solver_option.1 refl in
+    let a = at_most_once (Number min_option.1) (behind (codes "-min") words) (f.given (codes "-min") (Number min_option.1) refl) in
+    let b = at_most_once (Number max_option.1) (behind (codes "-max") words) (f.given (codes "-max") (Number max_option.1) refl) in
+    let d = at_most_once (Number objects_option.1) (behind (codes "-objects") words) (f.given (codes "-objects") (Number objects_option.1) refl) in
+    let e = at_most_once (Number steps_option.1) (behind (codes "-steps") words) (f.given (codes "-steps") (Number steps_option.1) refl) in
+    let g = at_most_once (Number solver_option.1) (behind (codes "-solver") words) (f.given (codes "-solver") (Number solver_option.1) refl) in
+    let h = at_most_once PathText (behind (codes "-after") words) (f.given (codes "-after") PathText refl) in
     let all = named_count run_options words f.named in
-    omega (arith, all, at_most_once words min_option a.0 a.1, at_most_once words max_option b.0 b.1, at_most_once words objects_option d.0 d.1, at_most_once words steps_option e.0 e.1, at_most_once words solver_option g.0 g.1)
+    omega (arith, all, a, b, d, e, g, h)
 
 trace_short : (words : Words) → Fits trace_options words → length words ≤ 10
 trace_short words f =
-    let a = f.given (codes "-min") min_option.1 refl in
-    let b = f.given (codes "-max") max_option.1 refl in
-    let d = f.given (codes "-objects") objects_option.1 refl in
-    let e = f.given (codes "-steps") steps_option.1 refl in
-    let g = f.given (codes "-depth") depth_option.1 refl in
+    let a = at_most_once (Number min_option.1) (behind (codes "-min") words) (f.given (codes "-min") (Number min_option.1) refl) in
+    let b = at_most_once (Number max_option.1) (behind (codes "-max") words) (f.given (codes "-max") (Number max_option.1) refl) in
+    let d = at_most_once (Number objects_option.1) (behind (codes "-objects") words) (f.given (codes "-objects") (Number objects_option.1) refl) in
+    let e = at_most_once (Number steps_option.1) (behind (codes "-steps") words) (f.given (codes "-steps") (Number steps_option.1) refl) in
+    let g = at_most_once (Number depth_option.1) (behind (codes "-depth") words) (f.given (codes "-depth") (Number depth_option.1) refl) in
     let all = named_count trace_options words f.named in
-    omega (arith, all, at_most_once words min_option a.0 a.1, at_most_once words max_option b.0 b.1, at_most_once words objects_option d.0 d.1, at_most_once words steps_option e.0 e.1, at_most_once words depth_option g.0 g.1)
+    omega (arith, all, a, b, d, e, g)
 
 -- the place of a bad word is small
-place_short : (options : List Row) → ((words : Words) → Fits options words → length words ≤ 10) → (words : Words) (n : ℕ) → IsBadAt options words n → n ≤ 10
-place_short options short words n b =
+place_short : (options : List Row) (most : ℕ) → ((words : Words) → Fits options words → length words ≤ most) → (words : Words) (n : ℕ) → IsBadAt options words n → n ≤ most
+place_short options most short words n b =
     let within : n ≤ length words = in_words b.here in
     let all = short (take n words ++ (b.before).0) (b.before).1 in
     omega (arith, all, length-append (take n words) (b.before).0, length_take n words within)
@@ -67,19 +84,15 @@ place_short options short words n b =
     in_words (inl p) = omega (arith, p.0)
     in_words (inr p) = omega (arith, p.0)
 
-pub run_place : (words : Words) (n : ℕ) → IsBadAt run_options words n → n ≤ 10
-run_place words n b = place_short run_options run_short words n b
+pub run_place : (words : Words) (n : ℕ) → IsBadAt run_options words n → n ≤ 12
+run_place words n b = place_short run_options 12 run_short words n b
 
 pub trace_place : (words : Words) (n : ℕ) → IsBadAt trace_options words n → n ≤ 10
-trace_place words n b = place_short trace_options trace_short words n b
+trace_place words n b = place_short trace_options 10 trace_short words n b
 
 -- ---- no options
 
-nothing_given : (option : Row) → HasDefault option → IsGiven [] option (option.1).default
-unfolding HasDefault
-nothing_given option h = record { stands = inr (refl, refl); at_least = h.0; at_most = h.1 }
-
-default_only : (option : Row) (z : ℤ) → IsGiven [] option z → z ≡ (option.1).default
+default_only : (option : NumberRow) (z : ℤ) → IsGiven [] option z → z ≡ (option.1).default
 default_only option z g = by_stand g.stands
   where
     by_stand : (behind option.0 [] ≡ signed_decimal z ∷ []) ⊎ ((behind option.0 [] ≡ []) × (z ≡ (option.1).default)) → z ≡ (option.1).default
@@ -87,10 +100,9 @@ default_only option z g = by_stand g.stands
     by_stand (inr p) = p.1
 
 pub fits_nothing : (options : List Row) → IsTable options → Fits options []
-unfolding HasDefault
 fits_nothing options table = record {
   named = tt;
-  given = λ name range e. (range.default, nothing_given (name, range) (table.defaults name range e));
+  given = λ name takes e. inl refl;
   ordered = λ lo hi g h. let a : lo ≡ negsuc 2147483647 = default_only min_option lo g in let b : hi ≡ pos 2147483647 = default_only max_option hi h in omega (arith, ints, a, b);
 }
 
@@ -100,12 +112,12 @@ pub positive : (z : ℤ) → pos 1 ≤ℤ z → (n : ℕ) × (z ≡ pos n)
 positive (pos n) h = (n, refl)
 positive (negsuc n) h = absurd (omega (arith, ints, h))
 
-pub given_natural : (words : Words) (option : Row) → (option.1).least ≡ pos 1 → ((z : ℤ) × IsGiven words option z) → (n : ℕ) × IsGiven words option (pos n)
+pub given_natural : (words : Words) (option : NumberRow) → (option.1).least ≡ pos 1 → ((z : ℤ) × IsGiven words option z) → (n : ℕ) × IsGiven words option (pos n)
 given_natural words option e g =
     let p = positive g.0 (subst (λ z. z ≤ℤ g.0) e (g.1).at_least) in
     (p.0, subst (IsGiven words option) p.1 g.1)
 
-pub given_once : (words : Words) (option : Row) (y z : ℤ) → mag (option.1).least < 2 ^ 31 → mag (option.1).greatest < 2 ^ 31 → IsGiven words option y → IsGiven words option z → y ≡ z
+pub given_once : (words : Words) (option : NumberRow) (y z : ℤ) → mag (option.1).least < 2 ^ 31 → mag (option.1).greatest < 2 ^ 31 → IsGiven words option y → IsGiven words option z → y ≡ z
 given_once words option y z a b g h = by_stand g.stands h.stands
   where
     by_stand : (behind option.0 words ≡ signed_decimal y ∷ []) ⊎ ((behind option.0 words ≡ []) × (y ≡ (option.1).default))
@@ -118,10 +130,10 @@ given_once words option y z a b g h = by_stand g.stands h.stands
 -- options that fit give bounds, with any depth
 pub has_bounds : (options : List Row) → IsTable options → (words : Words) (depth : ℕ) → Fits options words → (bounds : Limits) × AreBounds words bounds × (bounds.depth ≡ depth)
 has_bounds options table words depth f =
-    let lo = f.given (codes "-min") min_option.1 table.has_min in
-    let hi = f.given (codes "-max") max_option.1 table.has_max in
-    let objects = given_natural words objects_option refl (f.given (codes "-objects") objects_option.1 table.has_objects) in
-    let steps = given_natural words steps_option refl (f.given (codes "-steps") steps_option.1 table.has_steps) in (
+    let lo = option_given options table words f (codes "-min") min_option.1 table.has_min in
+    let hi = option_given options table words f (codes "-max") max_option.1 table.has_max in
+    let objects = given_natural words objects_option refl (option_given options table words f (codes "-objects") objects_option.1 table.has_objects) in
+    let steps = given_natural words steps_option refl (option_given options table words f (codes "-steps") steps_option.1 table.has_steps) in (
       record { lo = lo.0; hi = hi.0; depth = depth; objects = objects.0; steps = steps.0 },
       record { lo = lo.1; hi = hi.1; ordered = f.ordered lo.0 hi.0 lo.1 hi.1; objects = objects.1; steps = steps.1 },
       refl,
@@ -149,17 +161,20 @@ in_order words bounds lo hi g l h =
     let b : bounds.hi ≡ hi = given_once words max_option bounds.hi hi (omega arith) (omega arith) g.hi h in
     subst (λ z. z ≤ℤ hi) a (subst (λ z. bounds.lo ≤ℤ z) b g.ordered)
 
--- what fits, from the numbers of each option
-pub run_fits : (words : Words) (bounds : Limits) (budget : ℕ) → AreNamed run_options words → AreBounds words bounds → IsGiven words solver_option (pos budget) → Fits run_options words
-run_fits words bounds budget n g b = record {
+-- what fits, from the value of each option
+abbrev Fine : Words → Row → Type 0
+Fine words option = IsFine option.1 (behind option.0 words)
+
+pub run_fits : (words : Words) (bounds : Limits) (budget : ℕ) → AreNamed run_options words → AreBounds words bounds → IsGiven words solver_option (pos budget) → IsFine PathText (behind (codes "-after") words) → Fits run_options words
+run_fits words bounds budget n g b a = record {
   named = n;
-  given = λ name range e. found (λ (o : Row). (z : ℤ) × IsGiven words o z) run_options ((bounds.lo, g.lo), ((bounds.hi, g.hi), ((pos bounds.objects, g.objects), ((pos bounds.steps, g.steps), ((pos budget, b), tt))))) name range e;
+  given = λ name takes e. found (Fine words) run_options (given_fine words min_option bounds.lo g.lo, (given_fine words max_option bounds.hi g.hi, (given_fine words objects_option (pos bounds.objects) g.objects, (given_fine words steps_option (pos bounds.steps) g.steps, (given_fine words solver_option (pos budget) b, (a, tt)))))) name takes e;
   ordered = λ lo hi l h. in_order words bounds lo hi g l h;
 }
 
 pub trace_fits : (words : Words) (bounds : Limits) → AreNamed trace_options words → AreBounds words bounds → IsGiven words depth_option (pos bounds.depth) → Fits trace_options words
 trace_fits words bounds n g d = record {
   named = n;
-  given = λ name range e. found (λ (o : Row). (z : ℤ) × IsGiven words o z) trace_options ((bounds.lo, g.lo), ((bounds.hi, g.hi), ((pos bounds.objects, g.objects), ((pos bounds.steps, g.steps), ((pos bounds.depth, d), tt))))) name range e;
+  given = λ name takes e. found (Fine words) trace_options (given_fine words min_option bounds.lo g.lo, (given_fine words max_option bounds.hi g.hi, (given_fine words objects_option (pos bounds.objects) g.objects, (given_fine words steps_option (pos bounds.steps) g.steps, (given_fine words depth_option (pos bounds.depth) d, tt))))) name takes e;
   ordered = λ lo hi l h. in_order words bounds lo hi g l h;
 }

@@ -3,8 +3,8 @@ use borrow.Author.Tests.{eqb-true}
 use Rattle.std.proofs.Common.{true, ◌≡◌, ℕ, ◌+◌, ◌<◌, ◌≤◌, ◌⊎◌, ◌↔◌, inl, inr, ⊎_elim, List, [], ◌∷◌, ◌++◌, length, Option, Some, None, Ok, sym, ap, subst, ◌∙◌, arith, codes, Bool, false, nat_eq, if◌then◌else◌, refl}
 use Rattle.cc_base.specs.declared.inputs.Input.{Input}
 use Rattle.cc_base.specs.Limits.{Limits}
-use Rattle.cc_base.specs.Paths.{In}
-use Rattle.cc_model.specs.declared.commands.Command.TheVariants.{Run, Trace}
+use Rattle.cc_base.specs.Paths.{Path, In}
+use Rattle.cc_model.specs.declared.commands.Command.TheVariants.{Run, Trace, Make}
 use Rattle.cc_model.specs.declared.commands.RunWords.{RunWords}
 use Rattle.cc_model.specs.declared.commands.TraceWords.{TraceWords}
 use Rattle.cc_model.specs.declared.tokens.Token.{Token}
@@ -12,26 +12,29 @@ use Rattle.cc_model.specs.declared.trees.Program as source_program
 use Rattle.cc_model.specs.Core.{Program}
 use Rattle.cc_model.specs.Faults.{WellTyped, has_entry}
 use Rattle.cc_model.specs.Lexical.{tokens_of}
-use Rattle.cc_model.specs.Listing.{Counts, counts_of}
+use Rattle.cc_model.specs.Listing.{Counts, counts_of, IsComplete}
 use Rattle.cc_model.specs.Reads.{Reads, Accepts, shallow}
 use Rattle.cc_model.specs.Report.{newline, total, has_fault, is_fault}
 use Rattle.cc_model.specs.Runs.{IsInput, end_at}
 use Rattle.cc_model.specs.Source.{IsProgram, text_at}
+use Rattle.cc_model.specs.Tested.{tested}
 use Rattle.cc_outside.specs.Faults.{Rose}
 use Rattle.cc_outside.specs.Held.{Held, file_of}
 use Rattle.cc_outside.specs.Told.{appended}
 use Rattle.input_map.specs.declared.faults.MapFault.{MapFault}
 use Rattle.input_map.specs.CellFaults.{Refused}
 use Rattle.input_map.specs.Maps.{IsMap}
-use Rattle.concolic_cli.specs.Concolic.{Call, HasNoCommand, IsSource, IsSourceOf, Headline, PartStands, SourceIsRefused, FileFault, FileIsRefused, IsRefusal}
-use Rattle.concolic_cli.specs.Listings.{AsksNothing}
+use Rattle.concolic_cli.specs.Concolic.{Call, HasNoCommand, IsSource, IsSourceOf, Headline, NothingMissedBut, PartStands, of_task, of_make, SourceIsRefused, MadeIsRefused, FileFault, FileIsRefused, IsRefusal}
+use Rattle.concolic_cli.specs.Listings.{IsEasy, HoldsPaths, room}
+use Rattle.concolic_cli.specs.Made.{made_source, made_entry}
 use Rattle.concolic_cli.specs.Refusals.{bad_word_text, Says}
-use Rattle.concolic_cli.specs.Session.{ReadAs, Wrote, nothing, part}
+use Rattle.concolic_cli.specs.Session.{ReadAs, Wrote, nothing, part, WroteLast, LastStands, no_line, first_part}
 use Rattle.concolic_cli.specs.Sources.{Refuses, lexical, syntax, too_deep, fault, no_entry}
-use Rattle.concolic_cli.specs.Tasks.{Task, Work, list, trace, Asks, asks_list, asks_trace, word_of, list_task, trace_task, IsReport, RefusesTask}
+use Rattle.concolic_cli.specs.Tasks.{Task, Work, list, trace, Asks, asks_list, asks_trace, IsAfter, word_of, list_task, trace_task, IsReport, MayStand, MakesAs, RefusesTask}
 use Rattle.concolic_cli.specs.Words.{Accepted, BadWord}
-use Rattle.concolic_cli.proofs.Calls.{Ending, at_words, at_report, at_source, at_file, at_output, at_memory, apart, run_in, small_of, small_in, trace_status}
-use Rattle.concolic_cli.proofs.Commands.{OneCommand, of_list, of_trace, one_task, has_command}
+use Rattle.concolic_cli.proofs.Calls.{Ending, at_words, at_report, at_source, at_file, at_output, at_memory, at_make, MakeEnding, at_line, at_made_source, at_made_output, at_made_memory, make_status, not_made, apart, run_in, small_of, small_in, trace_status}
+use Rattle.concolic_cli.proofs.Commands.{OneCommand, of_list, of_trace, one_task, not_make, has_after, has_command}
+use Rattle.concolic_cli.proofs.Searches.{runs_of}
 
 -- ---- a source is no program and a refusal at once
 
@@ -61,13 +64,18 @@ unrefused one bytes entry p _ i (no_entry tokens tree h read well none) = let bo
 
 -- what is written is written for a program
 reported_unrefused : OneProgram → (bytes entry : List ℕ) (w : Work) (text other : List ℕ) (status : ℕ) → IsReport bytes entry w text status → Refuses bytes entry other → ⊥
-reported_unrefused one bytes entry (list b runs budget) text other status h r = unrefused one bytes entry h.program other h.source r
+reported_unrefused one bytes entry (list b runs budget after) text other status h r = unrefused one bytes entry h.program other h.source r
 reported_unrefused one bytes entry (trace b map) text other status h r = unrefused one bytes entry h.program other h.source r
 
--- a program that asks nothing is listed, and one with an input of the map text is traced
-list_unrefused : OneProgram → (bytes entry : List ℕ) (b : Limits) (runs budget : ℕ) (text : List ℕ) → IsSourceOf bytes entry (λ p. AsksNothing p b) → RefusesTask bytes entry (list b runs budget) text → ⊥
-list_unrefused one bytes entry b runs budget text s (inl r) = unrefused one bytes entry s.program text s.source r
-list_unrefused one bytes entry b runs budget text s (inr r) = (r.0).asks (s.each (r.0).program (r.0).source)
+-- nor does a part of it stand
+cut_unrefused : OneProgram → (bytes entry : List ℕ) (w : Work) (text other : List ℕ) → MayStand bytes entry w text → Refuses bytes entry other → ⊥
+cut_unrefused one bytes entry (list b runs budget after) text other h r = unrefused one bytes entry h.program other h.source r
+cut_unrefused one bytes entry (trace b map) text other h r = unrefused one bytes entry (h.1).program other (h.1).source r
+
+-- a program is listed, and one with an input of the map text is traced
+list_unrefused : OneProgram → (bytes entry : List ℕ) (b : Limits) (runs budget : ℕ) (after : Option Path) (text : List ℕ) (p : Program) → IsProgram bytes entry p → RefusesTask bytes entry (list b runs budget after) text → ⊥
+list_unrefused one bytes entry b runs budget after text p i (inl r) = unrefused one bytes entry p text i r
+list_unrefused one bytes entry b runs budget after text p i (inr r) = r
 
 trace_unrefused : OneProgram → (bytes entry : List ℕ) (b : Limits) (map text : List ℕ) (h : Input) → IsMap map h → IsSourceOf bytes entry (λ p. IsInput p b h) → RefusesTask bytes entry (trace b map) text → ⊥
 trace_unrefused one bytes entry b map text h m s (inl r) = unrefused one bytes entry s.program text s.source r
@@ -107,7 +115,8 @@ module _ (call : Call) (status : ℕ) (one : OneCommand) (answered : Ending call
   words_bad (at_source e r q) h = absurd (omega (arith, e, h))
   words_bad (at_file e r q) h = absurd (omega (arith, e, h))
   words_bad (at_output e r k a p t) h = absurd (omega (arith, e, h))
-  words_bad (at_memory e p t) h = absurd (omega (arith, e, h))
+  words_bad (at_memory e k a p t) h = absurd (omega (arith, e, h))
+  words_bad (at_make n a m) h = absurd (not_made status 2 (make_status call status n m) h (λ e. omega (arith, e)) (λ e. omega (arith, e)) (λ e. omega (arith, e)) (λ e. omega (arith, e)))
 
   pub bad_word : status ≡ 2 → (n : ℕ) × BadWord call.words n × Says call.err_old call.err_new call.err_faults_old call.err_faults_new (bad_word_text n ++ newline)
   bad_word = words_bad answered
@@ -118,20 +127,30 @@ module _ (call : Call) (status : ℕ) (one : OneCommand) (answered : Ending call
   no_command (at_source e r q) none = let c = has_command call.words r.task r.asked in absurd (none c.0 c.1)
   no_command (at_file e r q) none = let c = has_command call.words r.task r.asked in absurd (none c.0 c.1)
   no_command (at_output e r k a p t) none = let c = has_command call.words k a in absurd (none c.0 c.1)
-  no_command (at_memory e p t) none = let c = has_command call.words p.task p.asked in absurd (none c.0 c.1)
+  no_command (at_memory e k a p t) none = let c = has_command call.words k a in absurd (none c.0 c.1)
+  no_command (at_make n a m) none = absurd (none (Make n) a)
 
   pub bad_words : (status ≡ 2) ↔ HasNoCommand call.words
   bad_words = ((λ h. (bad_word h).1.refused), (λ none. no_command answered none))
 
+  made_source_of : (n : ℕ) → Accepted call.words (Make n) → MakeEnding call status n → status ≡ 3 → MadeIsRefused call.words call.err_old call.err_new call.err_faults_old call.err_faults_new
+  made_source_of n a (at_line e w q) h = absurd (omega (arith, e, h))
+  made_source_of n a (at_made_source e text r said q) h = record { n = n; accepted = a; text = text; refused = r; said = said }
+  made_source_of n a (at_made_output e r w t) h = absurd (omega (arith, e, h))
+  made_source_of n a (at_made_memory e w t) h = absurd (omega (arith, e, h))
+
   source_of : (e : Ending call status) → status ≡ 3 → SourceIsRefused call.words (call.seen).held call.err_old call.err_new call.err_faults_old call.err_faults_new
+      ⊎ MadeIsRefused call.words call.err_old call.err_new call.err_faults_old call.err_faults_new
   source_of (at_words n b e s t) h = absurd (omega (arith, e, h))
   source_of (at_report k a i w q) h = absurd (apart status i (omega (arith, h)) (omega (arith, h)))
-  source_of (at_source e r q) h = r
+  source_of (at_source e r q) h = inl r
   source_of (at_file e r q) h = absurd (omega (arith, e, h))
   source_of (at_output e r k a p t) h = absurd (omega (arith, e, h))
-  source_of (at_memory e p t) h = absurd (omega (arith, e, h))
+  source_of (at_memory e k a p t) h = absurd (omega (arith, e, h))
+  source_of (at_make n a m) h = inr (made_source_of n a m h)
 
   pub source_refused : status ≡ 3 → SourceIsRefused call.words (call.seen).held call.err_old call.err_new call.err_faults_old call.err_faults_new
+      ⊎ MadeIsRefused call.words call.err_old call.err_new call.err_faults_old call.err_faults_new
   source_refused = source_of answered
 
   file_of_ending : (e : Ending call status) → status ≡ 4 → FileIsRefused call.words (call.seen).held (call.seen).files_old (call.seen).files_new call.err_old call.err_new call.err_faults_old call.err_faults_new
@@ -140,10 +159,17 @@ module _ (call : Call) (status : ℕ) (one : OneCommand) (answered : Ending call
   file_of_ending (at_source e r q) h = absurd (omega (arith, e, h))
   file_of_ending (at_file e r q) h = r
   file_of_ending (at_output e r k a p t) h = absurd (omega (arith, e, h))
-  file_of_ending (at_memory e p t) h = absurd (omega (arith, e, h))
+  file_of_ending (at_memory e k a p t) h = absurd (omega (arith, e, h))
+  file_of_ending (at_make n a m) h = absurd (not_made status 4 (make_status call status n m) h (λ e. omega (arith, e)) (λ e. omega (arith, e)) (λ e. omega (arith, e)) (λ e. omega (arith, e)))
 
   pub file_refused : status ≡ 4 → FileIsRefused call.words (call.seen).held (call.seen).files_old (call.seen).files_new call.err_old call.err_new call.err_faults_old call.err_faults_new
   file_refused = file_of_ending answered
+
+  made_output_of : (n : ℕ) → MakeEnding call status n → status ≡ 5 → Rose (call.seen).faults_old (call.seen).faults_new × Said (codes "output failed" ++ newline)
+  made_output_of n (at_line e w q) h = absurd (omega (arith, e, h))
+  made_output_of n (at_made_source e text r said q) h = absurd (omega (arith, e, h))
+  made_output_of n (at_made_output e r w t) h = (r, t)
+  made_output_of n (at_made_memory e w t) h = absurd (omega (arith, e, h))
 
   output_of : (e : Ending call status) → status ≡ 5 → Rose (call.seen).faults_old (call.seen).faults_new × Said (codes "output failed" ++ newline)
   output_of (at_words n b e s t) h = absurd (omega (arith, e, h))
@@ -151,10 +177,17 @@ module _ (call : Call) (status : ℕ) (one : OneCommand) (answered : Ending call
   output_of (at_source e r q) h = absurd (omega (arith, e, h))
   output_of (at_file e r q) h = absurd (omega (arith, e, h))
   output_of (at_output e r k a p t) h = (r, t)
-  output_of (at_memory e p t) h = absurd (omega (arith, e, h))
+  output_of (at_memory e k a p t) h = absurd (omega (arith, e, h))
+  output_of (at_make n a m) h = made_output_of n m h
 
   pub output_failed : status ≡ 5 → Rose (call.seen).faults_old (call.seen).faults_new × Says call.err_old call.err_new call.err_faults_old call.err_faults_new (codes "output failed" ++ newline)
   output_failed = output_of answered
+
+  made_memory_of : (n : ℕ) → MakeEnding call status n → status ≡ 7 → Said (codes "no memory" ++ newline)
+  made_memory_of n (at_line e w q) h = absurd (omega (arith, e, h))
+  made_memory_of n (at_made_source e text r said q) h = absurd (omega (arith, e, h))
+  made_memory_of n (at_made_output e r w t) h = absurd (omega (arith, e, h))
+  made_memory_of n (at_made_memory e w t) h = t
 
   memory_of : (e : Ending call status) → status ≡ 7 → Said (codes "no memory" ++ newline)
   memory_of (at_words n b e s t) h = absurd (omega (arith, e, h))
@@ -162,26 +195,60 @@ module _ (call : Call) (status : ℕ) (one : OneCommand) (answered : Ending call
   memory_of (at_source e r q) h = absurd (omega (arith, e, h))
   memory_of (at_file e r q) h = absurd (omega (arith, e, h))
   memory_of (at_output e r k a p t) h = absurd (omega (arith, e, h))
-  memory_of (at_memory e p t) h = t
+  memory_of (at_memory e k a p t) h = t
+  memory_of (at_make n a m) h = made_memory_of n m h
 
   pub no_memory : status ≡ 7 → Says call.err_old call.err_new call.err_faults_old call.err_faults_new (codes "no memory" ++ newline)
   no_memory = memory_of answered
 
   -- what was written, where the status is that of a report
-  wrote_of : (e : Ending call status) → In status (0 ∷ 1 ∷ 10 ∷ 11 ∷ []) → (k : Task) × Asks call.words k × Written k × (call.err_new ≡ call.err_old)
+  pub record ReportWritten : Type 0 where
+    pub task : Task
+    pub asked : Asks call.words task
+    pub wrote : Wrote (call.seen).held (call.seen).out_old (call.seen).out_new task status
+    pub quiet : call.err_new ≡ call.err_old
+
+  -- or `make` wrote its line
+  pub record LineWritten : Type 0 where
+    pub n : ℕ
+    pub accepted : Accepted call.words (Make n)
+    pub wrote : WroteLast n (call.seen).out_old (call.seen).out_new
+    pub quiet : call.err_new ≡ call.err_old
+
+  made_of : (n : ℕ) → Accepted call.words (Make n) → MakeEnding call status n → In status (0 ∷ 1 ∷ 10 ∷ 11 ∷ []) → LineWritten
+  made_of n a (at_line e w q) h = record { n = n; accepted = a; wrote = w; quiet = q }
+  made_of n a (at_made_source e text r said q) h = absurd (apart status h (omega (arith, e)) (omega (arith, e)))
+  made_of n a (at_made_output e r w t) h = absurd (apart status h (omega (arith, e)) (omega (arith, e)))
+  made_of n a (at_made_memory e w t) h = absurd (apart status h (omega (arith, e)) (omega (arith, e)))
+
+  wrote_of : (e : Ending call status) → In status (0 ∷ 1 ∷ 10 ∷ 11 ∷ []) → ReportWritten ⊎ LineWritten
   wrote_of (at_words n b e s t) h = absurd (apart status h (omega (arith, e)) (omega (arith, e)))
-  wrote_of (at_report k a i w q) h = (k, a, w, q)
+  wrote_of (at_report k a i w q) h = inl (record { task = k; asked = a; wrote = w; quiet = q })
   wrote_of (at_source e r q) h = absurd (apart status h (omega (arith, e)) (omega (arith, e)))
   wrote_of (at_file e r q) h = absurd (apart status h (omega (arith, e)) (omega (arith, e)))
   wrote_of (at_output e r k a p t) h = absurd (apart status h (omega (arith, e)) (omega (arith, e)))
-  wrote_of (at_memory e p t) h = absurd (apart status h (omega (arith, e)) (omega (arith, e)))
+  wrote_of (at_memory e k a p t) h = absurd (apart status h (omega (arith, e)) (omega (arith, e)))
+  wrote_of (at_make n a m) h = inr (made_of n a m h)
 
   pub quiet : In status (0 ∷ 1 ∷ 10 ∷ 11 ∷ []) → call.err_new ≡ call.err_old
-  quiet h = (wrote_of answered h).3
+  quiet h = ⊎_elim (λ r. r.quiet) (λ m. m.quiet) (wrote_of answered h)
 
-  pub listed : (r : RunWords) → Accepted call.words (Run r) → In status (0 ∷ 1 ∷ 10 ∷ 11 ∷ []) →
-      Wrote (call.seen).held (call.seen).out_old (call.seen).out_new (list_task call.words r) status
-  listed r a h = let w = wrote_of answered h in subst (λ k. Written k) (of_list one call.words w.0 r w.1 a) w.2
+  made_run : (r : RunWords) → Accepted call.words (Run r) → LineWritten → ⊥
+  made_run r a m = let e = one call.words (Run r) (Make m.n) a m.accepted in cc e
+
+  made_trace : (t : TraceWords) → Accepted call.words (Trace t) → LineWritten → ⊥
+  made_trace t a m = let e = one call.words (Trace t) (Make m.n) a m.accepted in cc e
+
+  pub listed : (r : RunWords) (after : Option Path) → Accepted call.words (Run r) → IsAfter call.words r after → In status (0 ∷ 1 ∷ 10 ∷ 11 ∷ []) →
+      Wrote (call.seen).held (call.seen).out_old (call.seen).out_new (list_task call.words r after) status
+  listed r after a f h = ⊎_elim (λ w. subst (λ k. Written k) (of_list one call.words w.task r after w.asked a f) w.wrote) (λ m. absurd (made_run r a m)) (wrote_of answered h)
+
+  same_branches : (n : ℕ) → Accepted call.words (Make n) → (m : LineWritten) → m.n ≡ n
+  same_branches n a m = let e = one call.words (Make m.n) (Make n) m.accepted a in cc e
+
+  -- `make` asks for no task
+  pub made : (n : ℕ) → Accepted call.words (Make n) → status ≡ 0 → WroteLast n (call.seen).out_old (call.seen).out_new
+  made n a h = ⊎_elim (λ w. absurd (not_make one call.words w.task n w.asked a)) (λ m. subst (λ k. WroteLast k (call.seen).out_old (call.seen).out_new) (same_branches n a m) m.wrote) (wrote_of answered (inl h))
 
   low_in : (status ≡ 0) ⊎ (status ≡ 1) → In status (0 ∷ 1 ∷ 10 ∷ 11 ∷ [])
   low_in (inl e) = inl e
@@ -189,46 +256,91 @@ module _ (call : Call) (status : ℕ) (one : OneCommand) (answered : Ending call
 
   pub traced : (t : TraceWords) → Accepted call.words (Trace t) → status ≤ 1 →
       Wrote (call.seen).held (call.seen).out_old (call.seen).out_new (trace_task call.words t) status
-  traced t a h = let w = wrote_of answered (small_in status h) in subst (λ k. Written k) (of_trace one call.words w.0 t w.1 a) w.2
+  traced t a h = ⊎_elim (λ w. subst (λ k. Written k) (of_trace one call.words w.task t w.asked a) w.wrote) (λ m. absurd (made_trace t a m)) (wrote_of answered (small_in status h))
 
   at_most_one : (status ≡ 0) ⊎ (status ≡ 1) → status ≤ 1
   at_most_one (inl e) = omega (arith, e)
   at_most_one (inr e) = omega (arith, e)
 
+  -- the report of a listing whose five counts are zero
+  of_complete : (r : RunWords) (after : Option Path) → IsAfter call.words r after → (w : Wrote (call.seen).held (call.seen).out_old (call.seen).out_new (list_task call.words r after) status) →
+      IsComplete ((w.report).listing) → Headline call.words r (call.seen).held (call.seen).out_old (call.seen).out_new status
+  of_complete r after f w whole =
+      let l = w.report in
+      record {
+        after = after;
+        bytes = w.bytes;
+        program = l.program;
+        listing = l.listing;
+        names = f;
+        read = w.read;
+        source = l.source;
+        bounds = l.lists.bounds;
+        complete = whole;
+        begun = l.lists.licensed.begun;
+        enumerates = l.lists.enumerates whole;
+        runs = λ none. runs_of (tested l.program r.bounds) after (l.listing).items l.lists.sound none (ap (λ (k : Counts). k.strays) whole);
+        written = w.written ∙ ap (λ u. appended (call.seen).out_old u) l.text_is;
+        verdict = l.verdict;
+      }
+
   pub headline : (r : RunWords) → Accepted call.words (Run r) → (status ≡ 0) ⊎ (status ≡ 1) → Headline call.words r (call.seen).held (call.seen).out_old (call.seen).out_new status
-  headline r a h = of_wrote (listed r a (low_in h))
+  headline r a h = let f = has_after call.words r a in of_wrote f.0 f.1 (listed r f.0 a f.1 (low_in h))
     where
-      of_wrote : Wrote (call.seen).held (call.seen).out_old (call.seen).out_new (list_task call.words r) status → Headline call.words r (call.seen).held (call.seen).out_old (call.seen).out_new status
-      of_wrote w =
+      of_wrote : (after : Option Path) → IsAfter call.words r after → Wrote (call.seen).held (call.seen).out_old (call.seen).out_new (list_task call.words r after) status →
+          Headline call.words r (call.seen).held (call.seen).out_old (call.seen).out_new status
+      of_wrote after f w =
           let l = w.report in
           let none = total_zero (total (counts_of l.listing)) (has_fault (l.listing).items) status l.verdict (at_most_one h) in
-          let whole = all_zero (counts_of l.listing) none in
+          of_complete r after f w (all_zero (counts_of l.listing) none)
+
+  pub missed : (r : RunWords) → Accepted call.words (Run r) → In status (0 ∷ 1 ∷ 10 ∷ 11 ∷ []) → NothingMissedBut call.words r (call.seen).held (call.seen).out_old (call.seen).out_new status
+  missed r a h = let f = has_after call.words r a in of_wrote f.0 f.1 (listed r f.0 a f.1 h)
+    where
+      of_wrote : (after : Option Path) → IsAfter call.words r after → Wrote (call.seen).held (call.seen).out_old (call.seen).out_new (list_task call.words r after) status →
+          NothingMissedBut call.words r (call.seen).held (call.seen).out_old (call.seen).out_new status
+      of_wrote after f w =
+          let l = w.report in
           record {
+            after = after;
             bytes = w.bytes;
             program = l.program;
             listing = l.listing;
+            names = f;
             read = w.read;
             source = l.source;
             bounds = l.lists.bounds;
-            complete = whole;
-            begun = l.lists.licensed.begun;
-            enumerates = l.lists.enumerates whole;
+            misses_no_more = l.lists.misses_no_more;
             written = w.written ∙ ap (λ u. appended (call.seen).out_old u) l.text_is;
             verdict = l.verdict;
           }
+
+  made_stands : (n : ℕ) → MakeEnding call status n → (status ≡ 5) ⊎ (status ≡ 7) → LastStands n (call.seen).out_old (call.seen).out_new
+  made_stands n (at_line e w q) (inl h) = absurd (omega (arith, e, h))
+  made_stands n (at_line e w q) (inr h) = absurd (omega (arith, e, h))
+  made_stands n (at_made_source e text r said q) h = no_line q
+  made_stands n (at_made_output e r w t) h = first_part w
+  made_stands n (at_made_memory e w t) h = w
 
   stands_of : (e : Ending call status) → (status ≡ 5) ⊎ (status ≡ 7) → PartStands call.words (call.seen).held (call.seen).out_old (call.seen).out_new
   stands_of (at_words n b e s t) (inl h) = absurd (omega (arith, e, h))
   stands_of (at_words n b e s t) (inr h) = absurd (omega (arith, e, h))
   stands_of (at_report k a i w q) (inl h) = absurd (apart status i (omega (arith, h)) (omega (arith, h)))
   stands_of (at_report k a i w q) (inr h) = absurd (apart status i (omega (arith, h)) (omega (arith, h)))
-  stands_of (at_source e r q) h = record { task = r.task; asked = r.asked; stands = nothing q }
-  stands_of (at_file e r q) h = record { task = r.task; asked = r.asked; stands = nothing q }
-  stands_of (at_output e r k a p t) h = record { task = k; asked = a; stands = part p }
-  stands_of (at_memory e p t) h = p
+  stands_of (at_source e r q) h = of_task r.task r.asked (nothing q)
+  stands_of (at_file e r q) h = of_task r.task r.asked (nothing q)
+  stands_of (at_output e r k a p t) h = of_task k a (part p)
+  stands_of (at_memory e k a p t) h = of_task k a p
+  stands_of (at_make n a m) h = of_make n a (made_stands n m h)
 
   pub stands : (status ≡ 5) ⊎ (status ≡ 7) → PartStands call.words (call.seen).held (call.seen).out_old (call.seen).out_new
   stands = stands_of answered
+
+  made_silent : (n : ℕ) → MakeEnding call status n → 2 ≤ status → status ≤ 4 → (call.seen).out_new ≡ (call.seen).out_old
+  made_silent n (at_line e w q) l h = absurd (omega (arith, e, l))
+  made_silent n (at_made_source e text r said q) l h = q
+  made_silent n (at_made_output e r w t) l h = absurd (omega (arith, e, h))
+  made_silent n (at_made_memory e w t) l h = absurd (omega (arith, e, h))
 
   silent_of : (e : Ending call status) → 2 ≤ status → status ≤ 4 → (call.seen).out_new ≡ (call.seen).out_old
   silent_of (at_words n b e s t) l h = s
@@ -236,7 +348,8 @@ module _ (call : Call) (status : ℕ) (one : OneCommand) (answered : Ending call
   silent_of (at_source e r q) l h = q
   silent_of (at_file e r q) l h = q
   silent_of (at_output e r k a p t) l h = absurd (omega (arith, e, h))
-  silent_of (at_memory e p t) l h = absurd (omega (arith, e, h))
+  silent_of (at_memory e k a p t) l h = absurd (omega (arith, e, h))
+  silent_of (at_make n a m) l h = made_silent n m l h
 
   pub silent : 2 ≤ status → status ≤ 4 → (call.seen).out_new ≡ (call.seen).out_old
   silent = silent_of answered
@@ -246,23 +359,38 @@ module _ (call : Call) (status : ℕ) (one : OneCommand) (answered : Ending call
   every (inr (inl e)) = inr (inl e)
   every (inr (inr h)) = inr (inr (inr (inr (inr (inr (inr h))))))
 
+  made_every : In status (0 ∷ 3 ∷ 5 ∷ 7 ∷ []) → In status (0 ∷ 1 ∷ 2 ∷ 3 ∷ 4 ∷ 5 ∷ 7 ∷ 10 ∷ 11 ∷ [])
+  made_every (inl e) = inl e
+  made_every (inr (inl e)) = inr (inr (inr (inl e)))
+  made_every (inr (inr (inl e))) = inr (inr (inr (inr (inr (inl e)))))
+  made_every (inr (inr (inr (inl e)))) = inr (inr (inr (inr (inr (inr (inl e))))))
+  made_every (inr (inr (inr (inr e)))) = absurd e
+
   statuses_of : (e : Ending call status) → In status (0 ∷ 1 ∷ 2 ∷ 3 ∷ 4 ∷ 5 ∷ 7 ∷ 10 ∷ 11 ∷ [])
   statuses_of (at_words n b e s t) = inr (inr (inl e))
   statuses_of (at_report k a i w q) = every i
   statuses_of (at_source e r q) = inr (inr (inr (inl e)))
   statuses_of (at_file e r q) = inr (inr (inr (inr (inl e))))
   statuses_of (at_output e r k a p t) = inr (inr (inr (inr (inr (inl e)))))
-  statuses_of (at_memory e p t) = inr (inr (inr (inr (inr (inr (inl e))))))
+  statuses_of (at_memory e k a p t) = inr (inr (inr (inr (inr (inr (inl e))))))
+  statuses_of (at_make n a m) = made_every (make_status call status n m)
 
   pub statuses : In status (0 ∷ 1 ∷ 2 ∷ 3 ∷ 4 ∷ 5 ∷ 7 ∷ 10 ∷ 11 ∷ [])
   statuses = statuses_of answered
 
   -- of a list alone come 10 and 11
   run_of : (k : Task) → Asks call.words k → Written k → 10 ≤ status → (r : RunWords) × Accepted call.words (Run r)
-  run_of _ (asks_list r a) w l = (r, a)
+  run_of _ (asks_list r after a f) w l = (r, a)
   run_of _ (asks_trace t a) w l =
       let s = trace_status w.bytes (trace_task call.words t).entry (trace_task call.words t).work w.text status w.report l in
-      let e = s.3 in absurd (cc e)
+      let e = s.4 in absurd (cc e)
+
+  made_low : In status (0 ∷ 3 ∷ 5 ∷ 7 ∷ []) → 10 ≤ status → ⊥
+  made_low (inl e) h = omega (arith, e, h)
+  made_low (inr (inl e)) h = omega (arith, e, h)
+  made_low (inr (inr (inl e))) h = omega (arith, e, h)
+  made_low (inr (inr (inr (inl e)))) h = omega (arith, e, h)
+  made_low (inr (inr (inr (inr e)))) h = e
 
   alone_of : (e : Ending call status) → 10 ≤ status → (r : RunWords) × Accepted call.words (Run r)
   alone_of (at_words n b e s t) h = absurd (omega (arith, e, h))
@@ -270,7 +398,8 @@ module _ (call : Call) (status : ℕ) (one : OneCommand) (answered : Ending call
   alone_of (at_source e r q) h = absurd (omega (arith, e, h))
   alone_of (at_file e r q) h = absurd (omega (arith, e, h))
   alone_of (at_output e r k a p t) h = absurd (omega (arith, e, h))
-  alone_of (at_memory e p t) h = absurd (omega (arith, e, h))
+  alone_of (at_memory e k a p t) h = absurd (omega (arith, e, h))
+  alone_of (at_make n a m) h = absurd (made_low (make_status call status n m) h)
 
   pub run_alone : 10 ≤ status → (r : RunWords) × Accepted call.words (Run r)
   run_alone = alone_of answered
@@ -293,7 +422,8 @@ module _ (call : Call) (status : ℕ) (one : OneCommand) (answered : Ending call
       missing_of (at_source e r q) none = absurd (none_read r.task r.bytes r.asked none r.read)
       missing_of (at_file e r q) none = inl e
       missing_of (at_output e r k b p t) none = absurd (none_read k p.bytes b none p.read)
-      missing_of (at_memory e p t) none = inr e
+      missing_of (at_memory e k b p t) none = inr e
+      missing_of (at_make n b m) none = absurd (not_make one call.words task n a b)
 
       pub missing_file : file_of task.file h ≡ None → (status ≡ 4) ⊎ (status ≡ 7)
       missing_file = missing_of answered
@@ -317,7 +447,8 @@ module _ (call : Call) (status : ℕ) (one : OneCommand) (answered : Ending call
       too_long_of (at_source e r q) d here long = absurd (long_read r.task r.bytes d r.asked here long r.read)
       too_long_of (at_file e r q) d here long = inl e
       too_long_of (at_output e r k b p t) d here long = absurd (long_read k p.bytes d b here long p.read)
-      too_long_of (at_memory e p t) d here long = inr e
+      too_long_of (at_memory e k b p t) d here long = inr e
+      too_long_of (at_make n b m) d here long = absurd (not_make one call.words task n a b)
 
       pub too_long_file : (d : List ℕ) → file_of task.file h ≡ Some d → 1048576 < length d → (status ≡ 4) ⊎ (status ≡ 7)
       too_long_file = too_long_of answered
@@ -354,14 +485,21 @@ module _ (call : Call) (status : ℕ) (one : OneCommand) (answered : Ending call
           subst (λ u. RefusesTask bytes u.entry u.work r.text) same
           (subst (λ d. RefusesTask d (r.task).entry (r.task).work r.text) (same_bytes i.files i.told r.task r.bytes bytes r.asked i.file r.read) r.refused)
 
-      -- where nothing is written for them, the call is refused
-      refusal_of : (e : Ending call status) → ((text : List ℕ) (n : ℕ) → IsReport bytes task.entry task.work text n → ⊥) → IsRefusal (call.seen).files_old (call.seen).files_new status
-      refusal_of (at_words n b e s t) none = let c = has_command call.words task a in absurd (b.refused c.0 c.1)
-      refusal_of (at_report k b j w q) none = absurd (none w.text status (reported k w.bytes w.text status b w.read w.report))
-      refusal_of (at_source e r q) none = inl e
-      refusal_of (at_file e r q) none = inr (inr (e, file_failed r.task r.what r.asked r.cause))
-      refusal_of (at_output e r k b p t) none = absurd (none p.text p.status (reported k p.bytes p.text p.status b p.read p.report))
-      refusal_of (at_memory e p t) none = inr (inl e)
+      may_stand : (k : Task) (c text : List ℕ) → Asks call.words k → ReadAs (call.seen).held k.file c → MayStand c k.entry k.work text → MayStand bytes task.entry task.work text
+      may_stand k c text b read r =
+          let same = one_task one call.words k task b a in
+          subst (λ u. MayStand bytes u.entry u.work text) same (subst (λ d. MayStand d k.entry k.work text) (same_bytes i.files i.told k c bytes b i.file read) r)
+
+      -- where nothing can stand for them, the call is refused
+      refusal_of : (e : Ending call status) → ((text : List ℕ) (n : ℕ) → IsReport bytes task.entry task.work text n → ⊥) → ((text : List ℕ) → MayStand bytes task.entry task.work text → ⊥) →
+          IsRefusal (call.seen).files_old (call.seen).files_new status
+      refusal_of (at_words n b e s t) none cut = let c = has_command call.words task a in absurd (b.refused c.0 c.1)
+      refusal_of (at_report k b j w q) none cut = absurd (none w.text status (reported k w.bytes w.text status b w.read w.report))
+      refusal_of (at_source e r q) none cut = inl e
+      refusal_of (at_file e r q) none cut = inr (inr (e, file_failed r.task r.what r.asked r.cause))
+      refusal_of (at_output e r k b p t) none cut = absurd (cut p.text (may_stand k p.bytes p.text b p.read p.may))
+      refusal_of (at_memory e k b p t) none cut = inr (inl e)
+      refusal_of (at_make n b m) none cut = absurd (not_make one call.words task n a b)
 
       -- where they are not refused and nothing fails, the text is written, or memory is wanting
       report_of : (e : Ending call status) → ((text : List ℕ) → RefusesTask bytes task.entry task.work text → ⊥) →
@@ -372,31 +510,48 @@ module _ (call : Call) (status : ℕ) (one : OneCommand) (answered : Ending call
       report_of (at_source e r q) none f o = absurd (none r.text (refused r))
       report_of (at_file e r q) none f o = absurd (f (file_failed r.task r.what r.asked r.cause))
       report_of (at_output e r k b p t) none f o = absurd (o r)
-      report_of (at_memory e p t) none f o = inl e
+      report_of (at_memory e k b p t) none f o = inl e
+      report_of (at_make n b m) none f o = absurd (not_make one call.words task n a b)
+
+      -- the bytes that were read are those that the files hold
+      read_bytes : (w : Written task) → w.bytes ≡ bytes
+      read_bytes w = same_bytes i.files i.told task w.bytes bytes a i.file w.read
 
   pub refused_source : OneProgram → (task : Task) (bytes text : List ℕ) → Asks call.words task → IsSource task (call.seen).held bytes → Refuses bytes task.entry text →
       IsRefusal (call.seen).files_old (call.seen).files_new status
-  refused_source law task bytes text a i r = refusal_of task a bytes i answered (λ u n h. reported_unrefused law bytes task.entry task.work u text n h r)
+  refused_source law task bytes text a i r = refusal_of task a bytes i answered (λ u n h. reported_unrefused law bytes task.entry task.work u text n h r) (λ u h. cut_unrefused law bytes task.entry task.work u text h r)
 
   pub refused_map : (t : TraceWords) (bytes : List ℕ) (f : MapFault) → Accepted call.words (Trace t) → IsSource (trace_task call.words t) (call.seen).held bytes →
       IsSourceOf bytes (trace_task call.words t).entry (λ p. Refused p t.bounds (word_of call.words t.map) f) → IsRefusal (call.seen).files_old (call.seen).files_new status
-  refused_map t bytes f a i s = refusal_of (trace_task call.words t) (asks_trace t a) bytes i answered (λ u n h. h.unrefused f (s.each h.program h.source))
-
-  pub not_yet : (r : RunWords) (bytes : List ℕ) → Accepted call.words (Run r) → IsSource (list_task call.words r) (call.seen).held bytes →
-      IsSourceOf bytes (list_task call.words r).entry (λ p. AsksNothing p r.bounds → ⊥) → IsRefusal (call.seen).files_old (call.seen).files_new status
-  not_yet r bytes a i s = refusal_of (list_task call.words r) (asks_list r a) bytes i answered (λ u n h. s.each h.program h.source h.asks_nothing)
+  refused_map t bytes f a i s =
+      refusal_of (trace_task call.words t) (asks_trace t a) bytes i answered (λ u n h. h.unrefused f (s.each h.program h.source)) (λ u h. (h.1).unrefused f (s.each (h.1).program (h.1).source))
 
   listed_or : In status (0 ∷ 1 ∷ 10 ∷ 11 ∷ []) → In status (0 ∷ 1 ∷ 7 ∷ 10 ∷ 11 ∷ [])
   listed_or (inl e) = inl e
   listed_or (inr (inl e)) = inr (inl e)
   listed_or (inr (inr h)) = inr (inr (inr h))
 
-  pub complete : OneProgram → (r : RunWords) (bytes : List ℕ) → Accepted call.words (Run r) → IsSource (list_task call.words r) (call.seen).held bytes →
-      IsSourceOf bytes (list_task call.words r).entry (λ p. AsksNothing p r.bounds) → (Rose (call.seen).files_old (call.seen).files_new → ⊥) → (Rose (call.seen).faults_old (call.seen).faults_new → ⊥) →
-      In status (0 ∷ 1 ∷ 7 ∷ 10 ∷ 11 ∷ [])
-  complete law r bytes a i s f o =
+  pub answers_run : OneProgram → (r : RunWords) (after : Option Path) (bytes : List ℕ) (p : Program) → Accepted call.words (Run r) → IsAfter call.words r after →
+      IsSource (list_task call.words r after) (call.seen).held bytes → IsProgram bytes (list_task call.words r after).entry p →
+      (Rose (call.seen).files_old (call.seen).files_new → ⊥) → (Rose (call.seen).faults_old (call.seen).faults_new → ⊥) → In status (0 ∷ 1 ∷ 7 ∷ 10 ∷ 11 ∷ [])
+  answers_run law r after bytes p a names i is f o =
       ⊎_elim (λ e. inr (inr (inl e))) (λ h. listed_or h.0)
-      (report_of (list_task call.words r) (asks_list r a) bytes i answered (λ text t. list_unrefused law bytes (list_task call.words r).entry r.bounds r.runs r.budget text s t) f o)
+      (report_of (list_task call.words r after) (asks_list r after a names) bytes i answered (λ text t. list_unrefused law bytes (list_task call.words r after).entry r.bounds r.runs r.budget after text p is t) f o)
+
+  pub complete : OneProgram → (r : RunWords) (after : Option Path) (bytes : List ℕ) (paths : List Path) → Accepted call.words (Run r) → IsAfter call.words r after →
+      IsSource (list_task call.words r after) (call.seen).held bytes → IsSourceOf bytes (list_task call.words r after).entry (λ p. IsEasy p r.bounds r.budget × HoldsPaths p r.bounds after paths) →
+      length paths + room after ≤ r.runs → (Rose (call.seen).files_old (call.seen).files_new → ⊥) → (Rose (call.seen).faults_old (call.seen).faults_new → ⊥) →
+      (status ≡ 7) ⊎ Headline call.words r (call.seen).held (call.seen).out_old (call.seen).out_new status
+  complete law r after bytes paths a names i is few f o =
+      ⊎_elim (λ e. inl e) (λ w. inr (of_complete r after names w.1 (whole w.1)))
+      (report_of (list_task call.words r after) (asks_list r after a names) bytes i answered (λ text t. list_unrefused law bytes (list_task call.words r after).entry r.bounds r.runs r.budget after text is.program is.source t) f o)
+    where
+      whole : (w : Written (list_task call.words r after)) → IsComplete ((w.report).listing)
+      whole w =
+          let l = w.report in
+          let same = read_bytes (list_task call.words r after) (asks_list r after a names) bytes i w in
+          let h = is.each l.program (subst (λ u. IsProgram u (list_task call.words r after).entry l.program) same l.source) in
+          l.lists.complete h.0 paths h.1 few
 
   low_or : (status ≡ 7) ⊎ (status ≤ 1) → In status (0 ∷ 1 ∷ 7 ∷ [])
   low_or (inl e) = inr (inr (inl e))
@@ -411,3 +566,37 @@ module _ (call : Call) (status : ℕ) (one : OneCommand) (answered : Ending call
     where
       told_status : Written (trace_task call.words t) → status ≤ 1
       told_status w = run_in (is_fault (end_at (w.report).program t.bounds (w.report).input)) status (w.report).verdict
+
+  -- ---- `make`
+
+  module _ (n : ℕ) (a : Accepted call.words (Make n)) where
+    make_of : (e : Ending call status) → MakeEnding call status n
+    make_of (at_words k b e s t) = absurd (b.refused (Make n) a)
+    make_of (at_report k b i w q) = absurd (not_make one call.words k n b a)
+    make_of (at_source e r q) = absurd (not_make one call.words r.task n r.asked a)
+    make_of (at_file e r q) = absurd (not_make one call.words r.task n r.asked a)
+    make_of (at_output e r k b p t) = absurd (not_make one call.words k n b a)
+    make_of (at_memory e k b p t) = absurd (not_make one call.words k n b a)
+    make_of (at_make k b m) = let e = one call.words (Make k) (Make n) b a in let same : k ≡ n = cc e in subst (λ u. MakeEnding call status u) same m
+
+    without_output : MakeEnding call status n → (Rose (call.seen).faults_old (call.seen).faults_new → ⊥) → In status (0 ∷ 3 ∷ 7 ∷ [])
+    without_output (at_line e w q) o = inl e
+    without_output (at_made_source e text r said q) o = inr (inl e)
+    without_output (at_made_output e r w t) o = absurd (o r)
+    without_output (at_made_memory e w t) o = inr (inr (inl e))
+
+    pub answers_make : (Rose (call.seen).faults_old (call.seen).faults_new → ⊥) → In status (0 ∷ 3 ∷ 7 ∷ [])
+    answers_make = without_output (make_of answered)
+
+    module _ (law : OneProgram) (text : List ℕ) (r : Refuses (made_source n) made_entry text) where
+      no_made : (line : List ℕ) → MakesAs n line → ⊥
+      no_made line m = unrefused law (made_source n) made_entry m.program text m.source r
+
+      refused_of : MakeEnding call status n → (status ≡ 3) ⊎ (status ≡ 7)
+      refused_of (at_line e w q) = absurd (no_made w.text w.makes)
+      refused_of (at_made_source e u s said q) = inl e
+      refused_of (at_made_output e f w t) = absurd (no_made w.text w.makes)
+      refused_of (at_made_memory e w t) = inr e
+
+      pub refused_make : (status ≡ 3) ⊎ (status ≡ 7)
+      refused_make = refused_of (make_of answered)

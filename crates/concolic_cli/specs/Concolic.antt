@@ -1,9 +1,11 @@
 -- What the tool promises of a call.
-use Rattle.std.specs.Prelude.{ℕ, ◌≡◌, ◌<◌, ◌≤◌, ◌⊎◌, List, ◌++◌, length, Option, Some, None, codes}
+use Rattle.std.specs.Prelude.{ℕ, ◌≡◌, ◌<◌, ◌≤◌, ◌⊎◌, List, [], ◌++◌, length, Option, Some, None, codes}
+use Rattle.cc_base.specs.Paths.{Path}
 use Rattle.cc_model.specs.declared.commands.Command.{Command}
+use Rattle.cc_model.specs.declared.commands.Command.TheVariants.{Make}
 use Rattle.cc_model.specs.declared.commands.RunWords.{RunWords}
 use Rattle.cc_model.specs.Core.{Program}
-use Rattle.cc_model.specs.Listing.{Listing, IsComplete, tests, Begun, Enumerates}
+use Rattle.cc_model.specs.Listing.{Listing, IsComplete, path_count, run_count, tests, Begun, Enumerates}
 use Rattle.cc_model.specs.Report.{newline, report_text, verdict_of}
 use Rattle.cc_model.specs.Source.{IsProgram}
 use Rattle.cc_model.specs.Tested.{tested}
@@ -11,9 +13,12 @@ use Rattle.cc_outside.specs.Faults.{Rose}
 use Rattle.cc_outside.specs.Held.{Held, file_of}
 use Rattle.cc_outside.specs.Told.{appended}
 use Rattle.concolic_cli.specs.declared.refusal.Refusal.{Refusal}
+use Rattle.concolic_cli.specs.Listings.{MissesNoMore}
+use Rattle.concolic_cli.specs.Made.{made_source, made_entry}
 use Rattle.concolic_cli.specs.Refusals.{bad_word_text, file_text, Says, IsAnswered}
-use Rattle.concolic_cli.specs.Session.{ReadAs, Seen, Wrote, Stands, Cause}
-use Rattle.concolic_cli.specs.Tasks.{Task, Asks, word_of, RefusesTask}
+use Rattle.concolic_cli.specs.Session.{ReadAs, Seen, Wrote, Stands, Cause, WroteLast, LastStands, MadeCause}
+use Rattle.concolic_cli.specs.Sources.{Refuses}
+use Rattle.concolic_cli.specs.Tasks.{Task, Asks, IsAfter, word_of, RefusesTask}
 use Rattle.concolic_cli.specs.Words.{Accepted, BadWord}
 
 -- the words are no command
@@ -35,23 +40,42 @@ pub record IsSourceOf (bytes entry : List ℕ) (P : Program → Type 0) : Type 0
   pub each : (p : Program) → IsProgram bytes entry p → P p
 
 -- The headline. The bytes written are the report of a listing of the file's program. Its five counts are zero, and its
--- tests are exactly the paths of every input within the bounds, each once, in byte order; each is real by the source's
--- plain meaning. The base input was run, and no more runs were made than allowed. The status says whether a listed test ends
--- as a fault.
+-- tests are exactly the paths of every input within the bounds, or with `-after` of every input whose path is above that path,
+-- each once, in byte order; each is real by the source's plain meaning. The base input was run, no more runs were made than
+-- allowed, and without `-after` as many as there are paths. The status says whether a listed test ends as a fault.
 pub record Headline (words : List (List ℕ)) (run : RunWords) (held : Option Held) (out_old out_new : Option (List ℕ)) (status : ℕ) : Type 0 where
+  pub after : Option Path
   pub bytes : List ℕ
   pub program : Program
   pub listing : Listing
+  pub names : IsAfter words run after
   pub read : ReadAs held (word_of words run.file) bytes
   pub source : IsProgram bytes (word_of words run.entry) program
   pub bounds : listing.bounds ≡ run.bounds
   pub complete : IsComplete listing
-  pub begun : Begun None (tested program run.bounds) run.runs listing.items
-  pub enumerates : Enumerates None (tested program run.bounds) (tests listing.items)
+  pub begun : Begun after (tested program run.bounds) run.runs listing.items
+  pub enumerates : Enumerates after (tested program run.bounds) (tests listing.items)
+  pub runs : after ≡ None → run_count listing ≡ path_count listing
   pub written : out_new ≡ appended out_old (report_text listing)
   pub verdict : status ≡ verdict_of listing
 
--- the source is refused, or its program is for what the words ask, and the text is said
+-- Nothing is missed but what is said. The bytes written are the report of a listing of the file's program. Where no run
+-- concretised, no run left its prediction, and the tests are the paths of every input but for those under a spent prefix and
+-- those that are not below the unrun one, each once, in byte order.
+pub record NothingMissedBut (words : List (List ℕ)) (run : RunWords) (held : Option Held) (out_old out_new : Option (List ℕ)) (status : ℕ) : Type 0 where
+  pub after : Option Path
+  pub bytes : List ℕ
+  pub program : Program
+  pub listing : Listing
+  pub names : IsAfter words run after
+  pub read : ReadAs held (word_of words run.file) bytes
+  pub source : IsProgram bytes (word_of words run.entry) program
+  pub bounds : listing.bounds ≡ run.bounds
+  pub misses_no_more : listing.terms ≡ [] → MissesNoMore program run.bounds after listing
+  pub written : out_new ≡ appended out_old (report_text listing)
+  pub verdict : status ≡ verdict_of listing
+
+-- the source is refused, or for `trace` the map is, and the text is said
 pub record SourceIsRefused (words : List (List ℕ)) (held : Option Held) (err_old err_new : Option (List ℕ)) (faults_old faults_new : ℕ) : Type 0 where
   pub task : Task
   pub asked : Asks words task
@@ -59,6 +83,14 @@ pub record SourceIsRefused (words : List (List ℕ)) (held : Option Held) (err_o
   pub text : List ℕ
   pub read : ReadAs held task.file bytes
   pub refused : RefusesTask bytes task.entry task.work text
+  pub said : Says err_old err_new faults_old faults_new (text ++ newline)
+
+-- the source that `make` builds is refused, and the text is said
+pub record MadeIsRefused (words : List (List ℕ)) (err_old err_new : Option (List ℕ)) (faults_old faults_new : ℕ) : Type 0 where
+  pub n : ℕ
+  pub accepted : Accepted words (Make n)
+  pub text : List ℕ
+  pub refused : Refuses (made_source n) made_entry text
   pub said : Says err_old err_new faults_old faults_new (text ++ newline)
 
 -- there is no such file, it is too long, or the files failed
@@ -77,10 +109,9 @@ pub record FileIsRefused (words : List (List ℕ)) (held : Option Held) (files_o
   pub said : Says err_old err_new faults_old faults_new (file_text task.file what ++ newline)
 
 -- what stands after a failure: nothing was written, or a first part of what the words ask for
-pub record PartStands (words : List (List ℕ)) (held : Option Held) (out_old out_new : Option (List ℕ)) : Type 0 where
-  pub task : Task
-  pub asked : Asks words task
-  pub stands : Stands held out_old out_new task
+pub data PartStands (words : List (List ℕ)) (held : Option Held) (out_old out_new : Option (List ℕ)) : Type 0 where
+  of_task : (task : Task) → Asks words task → Stands held out_old out_new task → PartStands words held out_old out_new
+  of_make : (n : ℕ) → Accepted words (Make n) → LastStands n out_old out_new → PartStands words held out_old out_new
 
 -- a refusal: 3, or want of memory, or the files failed
 abbrev pub IsRefusal : (files_old files_new : ℕ) → (status : ℕ) → Type 0
@@ -97,7 +128,7 @@ pub record Call : Type 0 where
   pub err_faults_old : ℕ
   pub err_faults_new : ℕ
 
--- the words are bad; a session ended with its text; or it was refused for its cause
+-- the words are bad; a session ended with its text; or it was refused for its cause; and the same of `make`
 pub data Answered (call : Call) (status : ℕ) : Type 0 where
   bad : (n : ℕ) → BadWord call.words n → status ≡ 2 → (call.seen).out_new ≡ (call.seen).out_old →
       Says call.err_old call.err_new call.err_faults_old call.err_faults_new (bad_word_text n ++ newline) → Answered call status
@@ -105,3 +136,6 @@ pub data Answered (call : Call) (status : ℕ) : Type 0 where
       call.err_new ≡ call.err_old → Answered call status
   refused : (task : Task) → (e : Refusal) → Asks call.words task → Cause call.seen task e →
       IsAnswered call.err_old call.err_new call.err_faults_old call.err_faults_new task.file task.entry e status → Answered call status
+  made : (n : ℕ) → Accepted call.words (Make n) → WroteLast n (call.seen).out_old (call.seen).out_new → status ≡ 0 → call.err_new ≡ call.err_old → Answered call status
+  unmade : (n : ℕ) → (e : Refusal) → Accepted call.words (Make n) → MadeCause n (call.seen).out_old (call.seen).out_new (call.seen).faults_old (call.seen).faults_new e →
+      IsAnswered call.err_old call.err_new call.err_faults_old call.err_faults_new [] made_entry e status → Answered call status

@@ -3,10 +3,11 @@ pub mod Sources
 pub mod Options
 pub mod Refusals
 pub mod Listings
+pub mod Made
 pub mod TraceText
 pub mod Tasks
 pub mod Session
 pub mod Programs
-pub mod Lines
+pub mod Compiling
 pub mod Prepared
 pub mod Concolic

@@ -1,55 +1,72 @@
 -- The listing of a program's tested function.
-use Rattle.std.specs.Prelude.{ℕ, ◌≡◌, List, [], ◌∷◌, Option, Some, None, slice_get}
+use Rattle.std.specs.Prelude.{ℕ, ◌+◌, ◌≤◌, ◌≡◌, List, [], ◌∷◌, length, Option, Some, None}
+use Rattle.cc_base.specs.declared.ends.End.TheVariants.{Steps}
 use Rattle.cc_base.specs.declared.inputs.Input.{Input}
 use Rattle.cc_base.specs.declared.inputs.Test.{Test}
+use Rattle.cc_base.specs.declared.outcomes.Outcome.{Outcome}
+use Rattle.cc_base.specs.Forms.{Atom}
+use Rattle.cc_base.specs.Groups.{groups}
 use Rattle.cc_base.specs.Limits.{Limits}
-use Rattle.cc_base.specs.Paths.{In}
+use Rattle.cc_base.specs.Need.{need}
+use Rattle.cc_base.specs.Paths.{Path, In, next}
+use Rattle.cc_base.specs.Slice.{slice_of}
+use Rattle.cc_model.specs.declared.checked.Site.{Site}
 use Rattle.cc_model.specs.declared.terms.TermKind.{TermKind}
-use Rattle.cc_model.specs.declared.tokens.Token.{Token}
 use Rattle.cc_model.specs.Core.{Program}
-use Rattle.cc_model.specs.Canonical.{base_input_of}
 use Rattle.cc_model.specs.Meaning.{Entry}
-use Rattle.cc_model.specs.Runs.{params_of, path_at, end_at}
+use Rattle.cc_model.specs.Runs.{IsInput, path_at, end_at}
 use Rattle.cc_model.specs.Traced.{Event, term}
-use Rattle.cc_model.specs.Conditions.{alternatives, events_of, layer}
-use Rattle.cc_model.specs.Tested.{tested}
-use Rattle.cc_model.specs.Listing.{test_item, Listing, tests, IsComplete, Sound, Licensed, Covered, Enumerates}
+use Rattle.cc_model.specs.Conditions.{condition, last_atoms, events_of, layer}
+use Rattle.cc_model.specs.Tested.{Tested, tested, Layer, Offers}
+use Rattle.cc_model.specs.Listing.{Listing, spent_item, unrun_item, count_by, is_stray, run_count, tests, IsComplete, Above, Sound, Licensed, Covered, Enumerates, EnumeratesBut}
 use Rattle.cc_laws.specs.LinearForms.{linear}
+use Rattle.search_dfs.specs.Setting.{column_in}
 
 -- the test of a run
 abbrev pub test_at : Program → Limits → Input → Test
 test_at p b h = record { path = path_at p b h; end = end_at p b h; input = h }
 
--- a listing of one test
-abbrev pub one_listing : Limits → Test → Listing
-one_listing b t = record { bounds = b; items = test_item t ∷ []; terms = [] }
+-- the list holds the path of each input within the bounds, or of each whose path is above `after`
+abbrev pub HoldsPaths : Program → Limits → Option Path → List Path → Type 0
+HoldsPaths p b after paths = (h : Input) → IsInput p b h → Above after (path_at p b h) → In (path_at p b h) paths
 
--- the event has no alternative and belongs to no term
-pub record IsFree (a : Entry Event) : Type 0 where
-  pub no_other : alternatives a.event ≡ []
-  pub no_term : (k : TermKind) → (a.event).asked ≡ term k → ⊥
+-- the program as its traced runs tell of it, with the columns of its sites and the budget of a solve
+abbrev pub searched : List Site → Program → Limits → ℕ → Layer
+searched sites p b budget = layer linear p b (column_in sites) budget
 
-abbrev pub AreFree : List (Entry Event) → Type 0
-AreFree l = (a : Entry Event) → In a l → IsFree a
+-- the slice of an alternative's condition, in the run on u
+abbrev pub slice_at : Program → Limits → Input → Path → Outcome → List Atom
+slice_at p b u q o = slice_of (condition (length q) (events_of linear p b u)) (last_atoms (next q o) (events_of linear p b u))
 
--- The run on the base input asks nothing of its input. This is this project's own, and stands only until the search comes.
-abbrev pub AsksNothing : Program → Limits → Type 0
-AsksNothing p b = AreFree (events_of linear p b (base_input_of b (params_of p)))
+-- No input within the bounds has a run that concretises or ends as `steps`, and the budget is enough for each group of the
+-- slice of each alternative that such an input offers.
+pub record IsEasy (p : Program) (b : Limits) (budget : ℕ) : Type 0 where
+  pub no_term : (h : Input) → IsInput p b h → (a : Entry Event) → In a (events_of linear p b h) → (k : TermKind) → (a.event).asked ≡ term k → ⊥
+  pub no_steps : (h : Input) → IsInput p b h → end_at p b h ≡ Steps → ⊥
+  pub enough : (u : Input) (q : Path) (o : Outcome) → IsInput p b u → Offers (searched [] p b budget) u q o →
+      (g : List Atom) → In g (groups (slice_at p b u q o)) → need b.lo b.hi g ≤ budget
 
-abbrev pub column_or_zero : Option Token → ℕ
-column_or_zero (Some t) = t.col
-column_or_zero None = 0
+-- how many runs a listing above a path may make on inputs whose path isn't above it
+abbrev pub room : Option Path → ℕ
+room None = 0
+room (Some a) = length a + 1
 
--- the column of a token
-abbrev pub column_of : List Token → ℕ → ℕ
-column_of tokens at = column_or_zero (slice_get tokens at)
+-- No run left its prediction; the tests are the paths of every input but for those under a spent prefix, and those that are not
+-- below the unrun one; and no more runs were made than there are paths.
+pub record MissesNoMore (p : Program) (b : Limits) (after : Option Path) (l : Listing) : Type 0 where
+  pub no_stray : count_by is_stray l.items ≡ 0
+  pub enumerates_but : EnumeratesBut after (tested p b) (tests l.items) (λ q. In (spent_item q) l.items) (λ q. (i : Input) × In (unrun_item i q) l.items)
+  pub few : (paths : List Path) → HoldsPaths p b None paths → run_count l ≤ length paths
 
--- A listing of the program's tested function within the bounds, of at most so many runs, with this budget for a solve: each
--- item is real and has its cause, at each prefix every alternative is settled, and where the five counts are zero the tests
--- enumerate the paths of every input within the bounds, each once, in byte order.
-pub record IsListing (tokens : List Token) (p : Program) (b : Limits) (runs budget : ℕ) (l : Listing) : Type 0 where
+-- A listing of the program's tested function within the bounds, above the path `after` where one is given, of at most so many
+-- runs, with this budget for a solve. Each item is real and has its cause, and at each prefix every alternative is settled.
+-- Where no run concretised it misses no more than it says, and where the five counts are zero its tests enumerate the paths of
+-- every input, each once, in byte order. For an easy program with runs for each path, the counts are zero.
+pub record IsListing (sites : List Site) (p : Program) (b : Limits) (runs budget : ℕ) (after : Option Path) (l : Listing) : Type 0 where
   pub bounds : l.bounds ≡ b
-  pub sound : Sound None (tested p b) l.items
-  pub licensed : Licensed None (layer linear p b (column_of tokens) budget) runs l
-  pub covered : Covered None (layer linear p b (column_of tokens) budget) l.items
-  pub enumerates : IsComplete l → Enumerates None (tested p b) (tests l.items)
+  pub sound : Sound after (tested p b) l.items
+  pub licensed : Licensed after (searched sites p b budget) runs l
+  pub covered : Covered after (searched sites p b budget) l.items
+  pub misses_no_more : l.terms ≡ [] → MissesNoMore p b after l
+  pub enumerates : IsComplete l → Enumerates after (tested p b) (tests l.items)
+  pub complete : IsEasy p b budget → (paths : List Path) → HoldsPaths p b after paths → length paths + room after ≤ runs → IsComplete l

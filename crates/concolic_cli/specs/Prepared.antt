@@ -1,13 +1,10 @@
 -- What is made of a source before anything is written.
-use Rattle.std.specs.Prelude.{ℕ, ◌≡◌, ◌≤◌, List, length, map, All, Option, Some, None}
+use Rattle.std.specs.Prelude.{ℕ, ◌≡◌, ◌≤◌, List, length, map, All}
 use Rattle.cc_base.specs.Limits.{Limits}
 use Rattle.cc_base.specs.Outcomes.{HasByte}
 use Rattle.cc_model.specs.declared.checked.Checked.{Checked}
 use Rattle.cc_model.specs.declared.tokens.Token.{Token}
 use Rattle.cc_model.specs.CheckedProgram.{core_of}
-use Rattle.cc_model.specs.Core.{Program}
-use Rattle.cc_model.specs.Listing.{Listing}
-use Rattle.cc_model.specs.Report.{report_text, verdict_of}
 use Rattle.cc_model.specs.Runs.{IsInput, run_of, end_at}
 use Rattle.input_map.specs.declared.faults.MapFault.{MapFault}
 use Rattle.input_map.specs.CellFaults.{Refused}
@@ -16,9 +13,6 @@ use Rattle.sym_run.specs.declared.trace.Event.{Event}
 use Rattle.sym_run.specs.declared.trace.Trace.{Trace}
 use Rattle.sym_run.specs.Traces.{IsTrace, ArePlain, outcome_at}
 use Rattle.concolic_cli.specs.declared.prepared.Traced.{Traced}
-use Rattle.concolic_cli.specs.declared.report.Report.{Report}
-use Rattle.concolic_cli.specs.Lines.{text_of}
-use Rattle.concolic_cli.specs.Listings.{AsksNothing, IsListing}
 use Rattle.concolic_cli.specs.Programs.{ReadsAs}
 
 -- the checked program is that of some source
@@ -36,19 +30,6 @@ pub record IsRun (c : Checked) (b : Limits) (t : Trace) : Type 0 where
   pub plain : ArePlain c (run_of (core_of c) b t.input).log t.events
   pub end : t.end ≡ end_at (core_of c) b t.input
   pub bytes : All HasByte (map outcome_at t.events)
-
--- the lines are the report of a listing of the program, which asks nothing of its input
-pub record ReportsOn (p : Program) (b : Limits) (runs budget : ℕ) (r : Report) : Type 0 where
-  pub listing : Listing
-  pub asks_nothing : AsksNothing p b
-  pub lists : (tokens : List Token) → IsListing tokens p b runs budget listing
-  pub text : text_of r ≡ report_text listing
-  pub verdict : r.status ≡ verdict_of listing
-
--- the report on a program, or none where it asks something of its input
-abbrev pub ReportsIf : Program → Limits → (runs budget : ℕ) → Option Report → Type 0
-ReportsIf p b runs budget None = AsksNothing p b → ⊥
-ReportsIf p b runs budget (Some r) = ReportsOn p b runs budget r
 
 -- the program that the bytes are, and its run on the input of the map text
 pub record IsTraced (bytes entry map : List ℕ) (b : Limits) (t : Traced) : Type 0 where

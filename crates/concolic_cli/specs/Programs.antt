@@ -14,7 +14,7 @@ use Rattle.concolic_cli.specs.Sources.{offset_of, what_of}
 use Rattle.concolic_cli.specs.declared.refusal.Wrong.{Wrong}
 use Rattle.concolic_cli.specs.declared.refusal.Wrong.TheVariants.{BadByte, BadNumber, OpenComment, BadDirective, Syntax, TooDeep, UnknownName, DeclaredTwice, Mismatch, TooLarge}
 use Rattle.concolic_cli.specs.declared.refusal.Refusal.{Refusal}
-use Rattle.concolic_cli.specs.declared.refusal.Refusal.TheVariants.{BadWord, Missing, TooLong, FileFailed, Source, NotYet, NoEntry, Map, OutputFailed, NoMemory}
+use Rattle.concolic_cli.specs.declared.refusal.Refusal.TheVariants.{BadWord, Missing, TooLong, FileFailed, Source, NoEntry, Map, OutputFailed, NoMemory}
 
 -- the bytes are these tokens, and the program that these are is checked, to test the function with this name
 pub record ReadsAs (bytes entry : List ℕ) (tokens : List Token) (checked : Checked) : Type 0 where
@@ -68,6 +68,5 @@ IsNoProgram bytes entry (BadWord n) = ⊥
 IsNoProgram bytes entry Missing = ⊥
 IsNoProgram bytes entry TooLong = ⊥
 IsNoProgram bytes entry FileFailed = ⊥
-IsNoProgram bytes entry NotYet = ⊥
 IsNoProgram bytes entry (Map f) = ⊥
 IsNoProgram bytes entry OutputFailed = ⊥

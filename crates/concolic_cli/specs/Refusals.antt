@@ -4,13 +4,13 @@ use Rattle.std.specs.Fmt.{decimal, signed_decimal}
 use Rattle.input_map.specs.declared.faults.MapFault.{MapFault}
 use Rattle.input_map.specs.declared.faults.MapFault.TheVariants as map_fault
 use Rattle.cc_model.specs.Report.{newline}
-use Rattle.concolic_cli.specs.Sources.{source_text, not_yet_text, no_entry_text}
+use Rattle.concolic_cli.specs.Sources.{source_text, no_entry_text}
 use Rattle.cc_outside.specs.Faults.{Rose}
 use Rattle.cc_outside.specs.Told.{appended, WritesPart}
 use Rattle.concolic_cli.specs.declared.refusal.Wrong.{Wrong}
 use Rattle.concolic_cli.specs.declared.refusal.Wrong.TheVariants.{BadByte, BadNumber, OpenComment, BadDirective, Syntax, TooDeep, UnknownName, DeclaredTwice, Mismatch, TooLarge}
 use Rattle.concolic_cli.specs.declared.refusal.Refusal.{Refusal}
-use Rattle.concolic_cli.specs.declared.refusal.Refusal.TheVariants.{BadWord, Missing, TooLong, FileFailed, Source, NotYet, NoEntry, Map, OutputFailed, NoMemory}
+use Rattle.concolic_cli.specs.declared.refusal.Refusal.TheVariants.{BadWord, Missing, TooLong, FileFailed, Source, NoEntry, Map, OutputFailed, NoMemory}
 
 abbrev pub what_text : Wrong → List ℕ
 what_text BadByte = codes "bad byte"
@@ -62,7 +62,6 @@ refusal_text file entry Missing = file_text file (codes "missing")
 refusal_text file entry TooLong = file_text file (codes "too long")
 refusal_text file entry FileFailed = file_text file (codes "failed")
 refusal_text file entry (Source line wrong) = source_text line (what_text wrong)
-refusal_text file entry NotYet = not_yet_text
 refusal_text file entry NoEntry = no_entry_text entry
 refusal_text file entry (Map fault) = map_text_of fault
 refusal_text file entry OutputFailed = codes "output failed"
@@ -79,7 +78,6 @@ status_of Missing = 4
 status_of TooLong = 4
 status_of FileFailed = 4
 status_of (Source line wrong) = 3
-status_of NotYet = 3
 status_of NoEntry = 3
 status_of (Map fault) = 3
 status_of OutputFailed = 5
@@ -92,7 +90,6 @@ wants_memory Missing = true
 wants_memory TooLong = true
 wants_memory FileFailed = true
 wants_memory (Source line wrong) = true
-wants_memory NotYet = false
 wants_memory NoEntry = true
 wants_memory (Map fault) = true
 wants_memory OutputFailed = false

@@ -9,10 +9,11 @@ use Rattle.input_map.specs.declared.faults.MapFault.{MapFault}
 use Rattle.input_map.specs.CellFaults.{Refused}
 use Rattle.concolic_cli.specs.declared.answers.Status.{Status}
 use Rattle.concolic_cli.specs.declared.refusal.Refusal.{Refusal}
-use Rattle.concolic_cli.specs.declared.refusal.Refusal.TheVariants.{BadWord, Missing, TooLong, FileFailed, Source, NotYet, NoEntry, Map, OutputFailed, NoMemory}
+use Rattle.concolic_cli.specs.declared.refusal.Refusal.TheVariants.{BadWord, Missing, TooLong, FileFailed, Source, NoEntry, Map, OutputFailed, NoMemory}
+use Rattle.concolic_cli.specs.Made.{made_source, made_entry}
 use Rattle.concolic_cli.specs.Refusals.{what_text}
 use Rattle.concolic_cli.specs.Sources.{Refuses, source_text, no_entry_text}
-use Rattle.concolic_cli.specs.Tasks.{Task, Work, list, trace, IsReport, AsksSomething, MapIsRefused}
+use Rattle.concolic_cli.specs.Tasks.{Task, Work, list, trace, IsReport, MayStand, MakesAs, MapIsRefused}
 
 -- the bytes are the file's, as far as the files tell, and no more than a source may have
 pub record ReadAs (held : Option Held) (file bytes : List ℕ) : Type 0 where
@@ -27,25 +28,18 @@ FileCause held old new file FileFailed = Rose old new
 FileCause held old new file NoMemory = Unit {0}
 FileCause held old new file (BadWord n) = ⊥
 FileCause held old new file (Source line wrong) = ⊥
-FileCause held old new file NotYet = ⊥
 FileCause held old new file NoEntry = ⊥
 FileCause held old new file (Map f) = ⊥
 FileCause held old new file OutputFailed = ⊥
 
--- the program is accepted and its listing isn't made so far
-abbrev pub NotYetCause : (bytes entry : List ℕ) → Work → Type 0
-NotYetCause bytes entry (list b runs budget) = AsksSomething bytes entry b
-NotYetCause bytes entry (trace b map) = ⊥
-
 -- the program is accepted, and the map text has the fault
 abbrev pub MapRefusedCause : (bytes entry : List ℕ) → Work → MapFault → Type 0
-MapRefusedCause bytes entry (list b runs budget) f = ⊥
+MapRefusedCause bytes entry (list b runs budget after) f = ⊥
 MapRefusedCause bytes entry (trace b map) f = MapIsRefused bytes entry b map f
 
 -- the cause of a refusal of the bytes
 abbrev pub SourceCause : (bytes entry : List ℕ) → Work → Refusal → Type 0
 SourceCause bytes entry work (Source line wrong) = Refuses bytes entry (source_text line (what_text wrong))
-SourceCause bytes entry work NotYet = NotYetCause bytes entry work
 SourceCause bytes entry work NoEntry = Refuses bytes entry (no_entry_text entry)
 SourceCause bytes entry work (Map f) = MapRefusedCause bytes entry work f
 SourceCause bytes entry work NoMemory = Unit {0}
@@ -64,7 +58,6 @@ MapCause p b text Missing = ⊥
 MapCause p b text TooLong = ⊥
 MapCause p b text FileFailed = ⊥
 MapCause p b text (Source line wrong) = ⊥
-MapCause p b text NotYet = ⊥
 MapCause p b text NoEntry = ⊥
 MapCause p b text OutputFailed = ⊥
 
@@ -77,7 +70,6 @@ WriteCause old new Missing = ⊥
 WriteCause old new TooLong = ⊥
 WriteCause old new FileFailed = ⊥
 WriteCause old new (Source line wrong) = ⊥
-WriteCause old new NotYet = ⊥
 WriteCause old new NoEntry = ⊥
 WriteCause old new (Map f) = ⊥
 
@@ -99,13 +91,12 @@ pub record Wrote (held : Option Held) (out_old out_new : Option (List ℕ)) (tas
   pub report : IsReport bytes task.entry task.work text status
   pub written : out_new ≡ appended out_old text
 
--- a first part of such a text was written
+-- a first part of a text that may stand was written
 pub record WroteFirst (held : Option Held) (out_old out_new : Option (List ℕ)) (task : Task) : Type 0 where
   pub bytes : List ℕ
   pub text : List ℕ
-  pub status : ℕ
   pub read : ReadAs held task.file bytes
-  pub report : IsReport bytes task.entry task.work text status
+  pub may : MayStand bytes task.entry task.work text
   pub written : WritesPart out_old out_new text
 
 -- nothing was written, or a first part of such a text
@@ -132,7 +123,6 @@ module _ (seen : Seen) (task : Task) where
   Cause TooLong = FileRefused TooLong
   Cause FileFailed = FileRefused FileFailed
   Cause (Source line wrong) = SourceRefused (Source line wrong)
-  Cause NotYet = SourceRefused NotYet
   Cause NoEntry = SourceRefused NoEntry
   Cause (Map f) = SourceRefused (Map f)
   Cause OutputFailed = Rose seen.faults_old seen.faults_new × WroteFirst seen.held seen.out_old seen.out_new task
@@ -142,3 +132,44 @@ module _ (seen : Seen) (task : Task) where
   abbrev pub Ends : Result Status Refusal → Type 0
   Ends (Ok status) = Wrote seen.held seen.out_old seen.out_new task status.0
   Ends (Err e) = Cause e
+
+-- ---- `make`
+
+-- the last line of a listing of the made source was written
+pub record WroteLast (n : ℕ) (out_old out_new : Option (List ℕ)) : Type 0 where
+  pub text : List ℕ
+  pub makes : MakesAs n text
+  pub written : out_new ≡ appended out_old text
+
+-- a first part of such a line was written
+pub record WroteLastFirst (n : ℕ) (out_old out_new : Option (List ℕ)) : Type 0 where
+  pub text : List ℕ
+  pub makes : MakesAs n text
+  pub written : WritesPart out_old out_new text
+
+-- nothing was written, or a first part of such a line
+pub data LastStands (n : ℕ) (out_old out_new : Option (List ℕ)) : Type 0 where
+  no_line : out_new ≡ out_old → LastStands n out_old out_new
+  first_part : WroteLastFirst n out_old out_new → LastStands n out_old out_new
+
+module _ (n : ℕ) (out_old out_new : Option (List ℕ)) (faults_old faults_new : ℕ) where
+  -- the made source was refused, and nothing was written
+  abbrev pub MadeRefused : List ℕ → Type 0
+  MadeRefused text = Refuses (made_source n) made_entry text × (out_new ≡ out_old)
+
+  -- the cause of a refusal
+  abbrev pub MadeCause : Refusal → Type 0
+  MadeCause (Source line wrong) = MadeRefused (source_text line (what_text wrong))
+  MadeCause NoEntry = MadeRefused (no_entry_text made_entry)
+  MadeCause OutputFailed = Rose faults_old faults_new × WroteLastFirst n out_old out_new
+  MadeCause NoMemory = LastStands n out_old out_new
+  MadeCause (BadWord k) = ⊥
+  MadeCause Missing = ⊥
+  MadeCause TooLong = ⊥
+  MadeCause FileFailed = ⊥
+  MadeCause (Map f) = ⊥
+
+  -- `make` ends with status 0 and its line, or with a refusal and its cause
+  abbrev pub MadeEnds : Result Status Refusal → Type 0
+  MadeEnds (Ok status) = (status.0 ≡ 0) × WroteLast n out_old out_new
+  MadeEnds (Err e) = MadeCause e

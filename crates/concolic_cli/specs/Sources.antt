@@ -33,10 +33,6 @@ wrong_text Twice = codes "declared twice"
 wrong_text Mismatch = codes "type"
 wrong_text TooLarge = codes "too large"
 
--- the text of an accepted program whose listing isn't made so far
-abbrev pub not_yet_text : List ℕ
-not_yet_text = codes "run not yet"
-
 -- no entry NAME
 abbrev pub no_entry_text : List ℕ → List ℕ
 no_entry_text name = codes "no entry " ++ name

@@ -1,31 +1,34 @@
 -- What a command asks for, what is written then, and why it may be refused.
-use Rattle.std.specs.Prelude.{ℕ, ◌-◌, ◌≡◌, ◌⊎◌, List, [], Option, Some, None, slice_get, if◌then◌else◌}
+use Rattle.std.specs.Prelude.{ℕ, ◌+◌, ◌-◌, ◌≡◌, ◌⊎◌, List, [], Option, Some, None, option_map, slice_get, if◌then◌else◌}
 use Rattle.cc_base.specs.declared.inputs.Input.{Input}
 use Rattle.cc_base.specs.Limits.{Limits}
+use Rattle.cc_base.specs.Paths.{Path}
 use Rattle.cc_model.specs.declared.commands.Command.{Command}
 use Rattle.cc_model.specs.declared.commands.Command.TheVariants.{Run, Trace}
 use Rattle.cc_model.specs.declared.commands.RunWords.{RunWords}
 use Rattle.cc_model.specs.declared.commands.TraceWords.{TraceWords}
 use Rattle.cc_model.specs.Core.{Program}
-use Rattle.cc_model.specs.Listing.{Listing}
-use Rattle.cc_model.specs.Report.{report_text, verdict_of, is_fault}
+use Rattle.cc_model.specs.Listing.{Listing, Sound}
+use Rattle.cc_model.specs.Report.{report_text, last_line, verdict_of, is_fault}
 use Rattle.cc_model.specs.Runs.{IsInput, end_at}
 use Rattle.cc_model.specs.Source.{IsProgram}
+use Rattle.cc_model.specs.Tested.{tested}
 use Rattle.input_map.specs.declared.faults.MapFault.{MapFault}
 use Rattle.input_map.specs.Maps.{IsMap}
 use Rattle.input_map.specs.CellFaults.{Refused}
-use Rattle.concolic_cli.specs.Listings.{AsksNothing, IsListing}
+use Rattle.concolic_cli.specs.Listings.{IsListing}
+use Rattle.concolic_cli.specs.Made.{made_source, made_entry, made_bounds, made_budget}
 use Rattle.concolic_cli.specs.Refusals.{map_text_of}
-use Rattle.concolic_cli.specs.Sources.{Refuses, not_yet_text}
+use Rattle.concolic_cli.specs.Sources.{Refuses}
 use Rattle.concolic_cli.specs.TraceText.{trace_text}
-use Rattle.concolic_cli.specs.Words.{Accepted}
+use Rattle.concolic_cli.specs.Words.{Accepted, IsPath}
 
 -- ---- tasks
 
--- what is done with a program: its tests are listed, within bounds, by at most so many runs, with this budget for a solve; or
--- its run on the input of a map text is told
+-- what is done with a program: its tests are listed, within bounds, by at most so many runs, with this budget for a solve, and
+-- above a path where one is given; or its run on the input of a map text is told
 pub data Work : Type 0 where
-  list : (b : Limits) → (runs budget : ℕ) → Work
+  list : (b : Limits) → (runs budget : ℕ) → (after : Option Path) → Work
   trace : (b : Limits) → (map : List ℕ) → Work
 
 -- the name of the source's file, the name of the tested function, and what is done
@@ -42,27 +45,35 @@ text_or_none None = []
 abbrev pub word_of : List (List ℕ) → ℕ → List ℕ
 word_of words n = text_or_none (slice_get words (n - 1))
 
-abbrev pub list_task : List (List ℕ) → RunWords → Task
-list_task words r = record { file = word_of words r.file; entry = word_of words r.entry; work = list r.bounds r.runs r.budget }
+-- the path of a word, where there is one
+abbrev pub IsPathOf : Option (List ℕ) → Option Path → Type 0
+IsPathOf None None = Unit {0}
+IsPathOf (Some word) (Some p) = IsPath word p
+IsPathOf _ _ = ⊥
+
+-- the path after which the listing goes on, where the words name one
+abbrev pub IsAfter : List (List ℕ) → RunWords → Option Path → Type 0
+IsAfter words r after = IsPathOf (option_map (λ n. word_of words n) r.after) after
+
+abbrev pub list_task : List (List ℕ) → RunWords → Option Path → Task
+list_task words r after = record { file = word_of words r.file; entry = word_of words r.entry; work = list r.bounds r.runs r.budget after }
 
 abbrev pub trace_task : List (List ℕ) → TraceWords → Task
 trace_task words t = record { file = word_of words t.file; entry = word_of words t.entry; work = trace t.bounds (word_of words t.map) }
 
--- the words ask for the task
+-- the words ask for the task, which is one on a file
 pub data Asks (words : List (List ℕ)) : Task → Type 0 where
-  asks_list : (r : RunWords) → Accepted words (Run r) → Asks words (list_task words r)
+  asks_list : (r : RunWords) → (after : Option Path) → Accepted words (Run r) → IsAfter words r after → Asks words (list_task words r after)
   asks_trace : (t : TraceWords) → Accepted words (Trace t) → Asks words (trace_task words t)
 
 -- ---- what is written
 
 -- the text is the report of a listing of the program that the bytes are, and the status its verdict
-pub record ListsAs (bytes entry : List ℕ) (b : Limits) (runs budget : ℕ) (text : List ℕ) (status : ℕ) : Type 0 where
+pub record ListsAs (bytes entry : List ℕ) (b : Limits) (runs budget : ℕ) (after : Option Path) (text : List ℕ) (status : ℕ) : Type 0 where
   pub program : Program
   pub listing : Listing
   pub source : IsProgram bytes entry program
-  -- at this stage a program that is run asks nothing of its input
-  pub asks_nothing : AsksNothing program b
-  pub lists : IsListing source.tokens program b runs budget listing
+  pub lists : IsListing (source.checked).sites program b runs budget after listing
   pub text_is : text ≡ report_text listing
   pub verdict : status ≡ verdict_of listing
 
@@ -80,16 +91,36 @@ pub record TracesAs (bytes entry : List ℕ) (b : Limits) (map text : List ℕ) 
 
 -- the text is what is written for the program that the bytes are, with this status
 abbrev pub IsReport : (bytes entry : List ℕ) → Work → (text : List ℕ) → (status : ℕ) → Type 0
-IsReport bytes entry (list b runs budget) text status = ListsAs bytes entry b runs budget text status
+IsReport bytes entry (list b runs budget after) text status = ListsAs bytes entry b runs budget after text status
 IsReport bytes entry (trace b map) text status = TracesAs bytes entry b map text status
 
--- ---- why a program that the bytes are may be refused
+-- ---- what stands of it where the work was cut off
 
--- the run on its base input asks something of the input
-pub record AsksSomething (bytes entry : List ℕ) (b : Limits) : Type 0 where
+-- the text is the bounds, the lines of sound items, lines of terms and a last line
+pub record ListsSome (bytes entry : List ℕ) (b : Limits) (after : Option Path) (text : List ℕ) : Type 0 where
   pub program : Program
+  pub listing : Listing
   pub source : IsProgram bytes entry program
-  pub asks : AsksNothing program b → ⊥
+  pub bounds : listing.bounds ≡ b
+  pub sound : Sound after (tested program b) listing.items
+  pub text_is : text ≡ report_text listing
+
+-- a text of which a first part may stand
+abbrev pub MayStand : (bytes entry : List ℕ) → Work → (text : List ℕ) → Type 0
+MayStand bytes entry (list b runs budget after) text = ListsSome bytes entry b after text
+MayStand bytes entry (trace b map) text = (status : ℕ) × TracesAs bytes entry b map text status
+
+-- ---- what `make` writes
+
+-- the text is the last line of a listing of the source that `make` builds for n
+pub record MakesAs (n : ℕ) (text : List ℕ) : Type 0 where
+  pub program : Program
+  pub listing : Listing
+  pub source : IsProgram (made_source n) made_entry program
+  pub lists : IsListing (source.checked).sites program (made_bounds n) (n + 1) made_budget None listing
+  pub text_is : text ≡ last_line listing
+
+-- ---- why a program that the bytes are may be refused
 
 -- the map text has this fault, and is that of no input within the bounds
 pub record MapIsRefused (bytes entry : List ℕ) (b : Limits) (map : List ℕ) (f : MapFault) : Type 0 where
@@ -100,7 +131,7 @@ pub record MapIsRefused (bytes entry : List ℕ) (b : Limits) (map : List ℕ) (
 
 -- an accepted program is refused for the work, with this text
 abbrev pub RefusesWork : (bytes entry : List ℕ) → Work → (text : List ℕ) → Type 0
-RefusesWork bytes entry (list b runs budget) text = AsksSomething bytes entry b × (text ≡ not_yet_text)
+RefusesWork bytes entry (list b runs budget after) text = ⊥
 RefusesWork bytes entry (trace b map) text = (f : MapFault) × MapIsRefused bytes entry b map f × (text ≡ map_text_of f)
 
 -- the bytes are refused for a task, with this text

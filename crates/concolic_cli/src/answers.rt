@@ -134,9 +134,7 @@ fn line_of(alloc: Global, refusal: Refusal, file: &str, entry: &str) -> Result<V
         Refusal::Source(line, wrong) => source_line(alloc, line, wrong),
         Refusal::NoEntry => no_entry_line(alloc, entry),
         Refusal::Map(fault) => map_line(alloc, fault),
-        Refusal::BadWord(_) | Refusal::NotYet | Refusal::OutputFailed | Refusal::NoMemory => {
-            unreachable!()
-        }
+        Refusal::BadWord(_) | Refusal::OutputFailed | Refusal::NoMemory => { unreachable!() }
     }
 }
 
@@ -179,10 +177,6 @@ pub fn refuse<E: Sink>(
         Refusal::BadWord(word) => {
             say(err, bad_word_line(word).as_bytes());
             Status(2)
-        }
-        Refusal::NotYet => {
-            say(err, b"run not yet\n");
-            Status(3)
         }
         Refusal::OutputFailed => {
             say(err, b"output failed\n");

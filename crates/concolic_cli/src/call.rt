@@ -1,27 +1,31 @@
 //! The one call that does all that the program does.
 
-ghost use Rattle.std.specs.Prelude.{◌≡◌, ℕ, ◌^◌, ◌<◌, ◌≤◌, ◌⊎◌, ◌↔◌, ◌++◌, ◌∷◌, List, [], length, codes, Some, None};
+ghost use Rattle.std.specs.Prelude.{◌≡◌, ℕ, ◌^◌, ◌<◌, ◌≤◌, ◌+◌, ◌⊎◌, ◌↔◌, ◌++◌, ◌∷◌, List, [], length, codes, Option, Some, None, option_map};
 ghost use Rattle.cc_base.specs.declared.inputs.Input.{Input};
-ghost use Rattle.cc_base.specs.Paths.{In};
+ghost use Rattle.cc_base.specs.Paths.{Path, In};
 ghost use Rattle.cc_model.specs.declared.commands.RunWords.{RunWords};
 ghost use Rattle.cc_model.specs.declared.commands.TraceWords.{TraceWords};
-ghost use Rattle.cc_model.specs.declared.commands.Command.TheVariants.{Run, Trace};
+ghost use Rattle.cc_model.specs.declared.commands.Command.TheVariants.{Run, Trace, Make};
+ghost use Rattle.cc_model.specs.Core.{Program};
 ghost use Rattle.cc_model.specs.Report.{newline};
 ghost use Rattle.cc_model.specs.Runs.{IsInput};
+ghost use Rattle.cc_model.specs.Source.{IsProgram};
 ghost use Rattle.cc_outside.specs.Faults.{Rose};
 ghost use Rattle.cc_outside.specs.Held.{Held, file_of};
 ghost use Rattle.input_map.specs.Maps.{IsMap};
 ghost use Rattle.input_map.specs.CellFaults.{Refused};
 ghost use Rattle.input_map.specs.declared.faults.MapFault.{MapFault};
-ghost use Rattle.concolic_cli.specs.Concolic.{HasNoCommand, IsSource, IsSourceOf, Headline, PartStands, SourceIsRefused, FileIsRefused, IsRefusal, Answered};
-ghost use Rattle.concolic_cli.specs.Listings.{AsksNothing};
+ghost use Rattle.concolic_cli.specs.Concolic.{HasNoCommand, IsSource, IsSourceOf, Headline, NothingMissedBut, PartStands, SourceIsRefused, MadeIsRefused, FileIsRefused, IsRefusal, Answered};
+ghost use Rattle.concolic_cli.specs.Listings.{IsEasy, HoldsPaths, room};
+ghost use Rattle.concolic_cli.specs.Made.{made_source, made_entry};
 ghost use Rattle.concolic_cli.specs.Refusals.{bad_word_text, Says};
-ghost use Rattle.concolic_cli.specs.Session.{Wrote};
+ghost use Rattle.concolic_cli.specs.Session.{Wrote, WroteLast};
 ghost use Rattle.concolic_cli.specs.Sources.{Refuses};
-ghost use Rattle.concolic_cli.specs.Tasks.{Task, Asks, word_of, list_task, trace_task};
+ghost use Rattle.concolic_cli.specs.Tasks.{Task, Asks, IsAfter, word_of, list_task, trace_task};
 ghost use Rattle.concolic_cli.specs.Words.{texts, Accepted, BadWord};
 
 use crate::answers::{Status, refuse};
+use crate::making::write_made;
 use crate::refusal::Refusal;
 use crate::session::{list_tests, tell_run};
 use crate::words::{one_command, read_words};
@@ -40,6 +44,16 @@ fn word(words: &[String], number: u32) -> &str
     }
 }
 
+/// The word with a number, where there is a number.
+fn word_if(words: &[String], number: Option<u32>) -> Option<&str>
+    ensures { option_map (λ w. w.now) result ≡ option_map (λ n. word_of (texts words.now) n) number }
+{
+    match number {
+        Some(number) => Some(word(words, number)),
+        None => None,
+    }
+}
+
 /// Answers a call whose words are `run` and what follows.
 fn answer_run<F: Files, K: Sink, E: Sink>(
     alloc: Global,
@@ -51,6 +65,7 @@ fn answer_run<F: Files, K: Sink, E: Sink>(
 ) -> Status
     requires accepted { Accepted (texts words.now) (Run run.now) }
     requires runs { 1 ≤ run.now.runs }
+    requires after { (after : Option Path) × IsAfter (texts words.now) run.now after }
     ensures answered { Answered (record {
       words = texts words.now;
       seen = record {
@@ -71,7 +86,8 @@ fn answer_run<F: Files, K: Sink, E: Sink>(
 {
     let file = word(words, run.file);
     let entry = word(words, run.entry);
-    match list_tests(alloc, run, file, entry, files, out) {
+    let after = word_if(words, run.after);
+    match list_tests(alloc, run, after, file, entry, files, out) {
         Ok(status) => status,
         Err(refusal) => refuse(alloc, refusal, file, entry, err),
     }
@@ -114,6 +130,42 @@ fn answer_trace<F: Files, K: Sink, E: Sink>(
     }
 }
 
+/// Answers a call whose words are `make` and a number.
+fn answer_make<F: Files, K: Sink, E: Sink>(
+    alloc: Global,
+    words: &[String],
+    branches: u32,
+    files: &mut F,
+    out: &mut K,
+    err: &mut E,
+) -> Status
+    requires accepted { Accepted (texts words.now) (Make branches) }
+    requires few { branches ≤ 1024 }
+    requires some { 1 ≤ branches }
+    ensures answered { Answered (record {
+      words = texts words.now;
+      seen = record {
+        held = F.held files.old;
+        files_old = F.faults files.old;
+        files_new = F.faults files.new;
+        out_old = K.written out.old;
+        out_new = K.written out.new;
+        faults_old = K.faults out.old;
+        faults_new = K.faults out.new;
+      };
+      err_old = E.written err.old;
+      err_new = E.written err.new;
+      err_faults_old = E.faults err.old;
+      err_faults_new = E.faults err.new;
+    }) result.0 }
+    ensures held { F.held files.new ≡ F.held files.old }
+{
+    match write_made(alloc, branches, out) {
+        Ok(status) => status,
+        Err(refusal) => refuse(alloc, refusal, "", "f", err),
+    }
+}
+
 /// Answers a call.
 fn answer<F: Files, K: Sink, E: Sink>(
     alloc: Global,
@@ -143,18 +195,19 @@ fn answer<F: Files, K: Sink, E: Sink>(
     match read_words(words) {
         Ok(Command::Run(run)) => answer_run(alloc, words, &run, files, out, err),
         Ok(Command::Trace(trace)) => answer_trace(alloc, words, &trace, files, out, err),
-        Ok(Command::Replay(_) | Command::Make(_)) => unreachable!(),
+        Ok(Command::Make(branches)) => answer_make(alloc, words, branches, files, out, err),
+        Ok(Command::Replay(_)) => unreachable!(),
         Err(bad) => refuse(alloc, Refusal::BadWord(bad), "", "", err),
     }
 }
 
 /// Does what the words of the command line ask: reads the file of a source, and either lists the paths of its tested
-/// function and writes the report, or runs that function on one input and writes what the run does; where it refuses, it
-/// says why in one line to `err`.
+/// function and writes the report, or runs that function on one input and writes what the run does; or lists the paths of a
+/// source that it makes, and writes the last line. Where it refuses, it says why in one line to `err`.
 ///
-/// The statuses: 0 and 1 a complete listing or a run, 1 where a listed test or the run ends as a fault; 2 the words are no
-/// command; 3 the source or the map is refused; 4 the file is; 5 the output failed; 7 want of memory, the one answer that
-/// nothing else explains; 10 and 11 an incomplete listing, 11 where a listed test ends as a fault.
+/// The statuses: 0 and 1 a complete listing or a run, 1 where a listed test or the run ends as a fault, 0 for `make`; 2 the words
+/// are no command; 3 the source or the map is refused; 4 the file is; 5 the output failed; 7 want of memory, the one answer that
+/// nothing else explains; 10 and 11 an incomplete listing, 11 where a test or stray run ends as a fault.
 pub fn concolic<F: Files, K: Sink, E: Sink>(
     alloc: Global,
     words: &[String],
@@ -166,20 +219,25 @@ pub fn concolic<F: Files, K: Sink, E: Sink>(
     ensures headline { (run : RunWords) → Accepted (texts words.now) (Run run) → (result.0 ≡ 0) ⊎ (result.0 ≡ 1)
         → Headline (texts words.now) run (F.held files.old) (K.written out.old) (K.written out.new) result.0 }
 
-    // `run`, 0, 1, 10 and 11: the report of a listing was written, and the status is its verdict.
-    ensures listed { (run : RunWords) → Accepted (texts words.now) (Run run) → In result.0 (0 ∷ 1 ∷ 10 ∷ 11 ∷ [])
-        → Wrote (F.held files.old) (K.written out.old) (K.written out.new) (list_task (texts words.now) run) result.0 }
+    // `run`, 0, 1, 10 and 11: the report of a listing was written, the status is its verdict, and it misses no more than it says.
+    ensures listed { (run : RunWords) (after : Option Path) → Accepted (texts words.now) (Run run) → IsAfter (texts words.now) run after
+        → In result.0 (0 ∷ 1 ∷ 10 ∷ 11 ∷ [])
+        → Wrote (F.held files.old) (K.written out.old) (K.written out.new) (list_task (texts words.now) run after) result.0 }
+    ensures missed { (run : RunWords) → Accepted (texts words.now) (Run run) → In result.0 (0 ∷ 1 ∷ 10 ∷ 11 ∷ [])
+        → NothingMissedBut (texts words.now) run (F.held files.old) (K.written out.old) (K.written out.new) result.0 }
 
     // `trace`, 0 and 1: the run on the input of the map was written; 1 where it ends as a fault.
     ensures traced { (trace : TraceWords) → Accepted (texts words.now) (Trace trace) → result.0 ≤ 1
         → Wrote (F.held files.old) (K.written out.old) (K.written out.new) (trace_task (texts words.now) trace) result.0 }
+
+    // `make`, 0: the last line of a listing of the made source was written.
+    ensures made { (n : ℕ) → Accepted (texts words.now) (Make n) → result.0 ≡ 0 → WroteLast n (K.written out.old) (K.written out.new) }
     ensures quiet { In result.0 (0 ∷ 1 ∷ 10 ∷ 11 ∷ []) → E.written err.new ≡ E.written err.old }
 
-    // They come where nothing is refused and nothing fails, unless memory is wanting. So far, a program that `run` runs asks
-    // nothing of its input.
-    ensures complete { (run : RunWords) (bytes : List ℕ) → Accepted (texts words.now) (Run run)
-        → IsSource (list_task (texts words.now) run) (F.held files.old) bytes
-        → IsSourceOf bytes (word_of (texts words.now) run.entry) (λ p. AsksNothing p run.bounds)
+    // They come where nothing is refused and nothing fails, unless memory is wanting.
+    ensures answers_run { (run : RunWords) (after : Option Path) (bytes : List ℕ) (p : Program) → Accepted (texts words.now) (Run run)
+        → IsAfter (texts words.now) run after → IsSource (list_task (texts words.now) run after) (F.held files.old) bytes
+        → IsProgram bytes (word_of (texts words.now) run.entry) p
         → (Rose (F.faults files.old) (F.faults files.new) → ⊥) → (Rose (K.faults out.old) (K.faults out.new) → ⊥)
         → In result.0 (0 ∷ 1 ∷ 7 ∷ 10 ∷ 11 ∷ []) }
     ensures complete_trace { (trace : TraceWords) (bytes : List ℕ) (h : Input) → Accepted (texts words.now) (Trace trace)
@@ -188,26 +246,35 @@ pub fn concolic<F: Files, K: Sink, E: Sink>(
         → IsSourceOf bytes (word_of (texts words.now) trace.entry) (λ p. IsInput p trace.bounds h)
         → (Rose (F.faults files.old) (F.faults files.new) → ⊥) → (Rose (K.faults out.old) (K.faults out.new) → ⊥)
         → In result.0 (0 ∷ 1 ∷ 7 ∷ []) }
+    ensures answers_make { (n : ℕ) → Accepted (texts words.now) (Make n)
+        → (Rose (K.faults out.old) (K.faults out.new) → ⊥) → In result.0 (0 ∷ 3 ∷ 7 ∷ []) }
+
+    // The listing of an easy program is complete where there are runs for each path, or with `-after` for each path above that
+    // path and one more than its length.
+    ensures complete { (run : RunWords) (after : Option Path) (bytes : List ℕ) (paths : List Path) → Accepted (texts words.now) (Run run)
+        → IsAfter (texts words.now) run after → IsSource (list_task (texts words.now) run after) (F.held files.old) bytes
+        → IsSourceOf bytes (word_of (texts words.now) run.entry) (λ p. IsEasy p run.bounds run.budget × HoldsPaths p run.bounds after paths)
+        → length paths + room after ≤ run.runs
+        → (Rose (F.faults files.old) (F.faults files.new) → ⊥) → (Rose (K.faults out.old) (K.faults out.new) → ⊥)
+        → (result.0 ≡ 7) ⊎ Headline (texts words.now) run (F.held files.old) (K.written out.old) (K.written out.new) result.0 }
 
     // 2: exactly where the words are no command; the bad word is named.
     ensures bad_words { (result.0 ≡ 2) ↔ HasNoCommand (texts words.now) }
     ensures bad_word { result.0 ≡ 2 → (n : ℕ) × BadWord (texts words.now) n
         × Says (E.written err.old) (E.written err.new) (E.faults err.old) (E.faults err.new) (bad_word_text n ++ newline) }
 
-    // 3: exactly where the source is refused, or for `run` its program asks something of its input, or for `trace` the map is
-    // refused; the text is that of the first of these.
+    // 3: exactly where the source is refused, or for `trace` the map is; the text is that of the first of these.
     ensures source_refused { result.0 ≡ 3
-        → SourceIsRefused (texts words.now) (F.held files.old) (E.written err.old) (E.written err.new) (E.faults err.old) (E.faults err.new) }
+        → SourceIsRefused (texts words.now) (F.held files.old) (E.written err.old) (E.written err.new) (E.faults err.old) (E.faults err.new)
+        ⊎ MadeIsRefused (texts words.now) (E.written err.old) (E.written err.new) (E.faults err.old) (E.faults err.new) }
     ensures refused_source { (task : Task) (bytes text : List ℕ) → Asks (texts words.now) task → IsSource task (F.held files.old) bytes
         → Refuses bytes task.entry text → IsRefusal (F.faults files.old) (F.faults files.new) result.0 }
     ensures refused_map { (trace : TraceWords) (bytes : List ℕ) (f : MapFault) → Accepted (texts words.now) (Trace trace)
         → IsSource (trace_task (texts words.now) trace) (F.held files.old) bytes
         → IsSourceOf bytes (word_of (texts words.now) trace.entry) (λ p. Refused p trace.bounds (word_of (texts words.now) trace.map) f)
         → IsRefusal (F.faults files.old) (F.faults files.new) result.0 }
-    ensures not_yet { (run : RunWords) (bytes : List ℕ) → Accepted (texts words.now) (Run run)
-        → IsSource (list_task (texts words.now) run) (F.held files.old) bytes
-        → IsSourceOf bytes (word_of (texts words.now) run.entry) (λ p. AsksNothing p run.bounds → ⊥)
-        → IsRefusal (F.faults files.old) (F.faults files.new) result.0 }
+    ensures refused_make { (n : ℕ) (text : List ℕ) → Accepted (texts words.now) (Make n) → Refuses (made_source n) made_entry text
+        → (result.0 ≡ 3) ⊎ (result.0 ≡ 7) }
 
     // 4: each text by its cause; where the files are told, exactly where there is no such file or it is too long.
     ensures file_refused { result.0 ≡ 4

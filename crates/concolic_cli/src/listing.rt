@@ -1,18 +1,16 @@
-//! The report on one test.
+//! The line of a test, and the last line of a report.
 
-ghost use Rattle.std.specs.Prelude.{◌≡◌, ◌++◌, IfOk, All, if◌then◌else◌};
-ghost use Rattle.cc_base.specs.declared.inputs.Test.{Test as Tried};
-ghost use Rattle.cc_base.specs.Limits.{Limits};
+ghost use Rattle.std.specs.Prelude.{◌≡◌, ◌++◌, nat_eq, IfOk, All};
 ghost use Rattle.cc_base.specs.Outcomes.{HasByte};
-ghost use Rattle.cc_model.specs.Listing.{test_item, at_steps};
-ghost use Rattle.cc_model.specs.Report.{item_line, incomplete_line, last_line, report_text, verdict_of};
-ghost use Rattle.concolic_cli.specs.Lines.{text_of};
-ghost use Rattle.concolic_cli.specs.Listings.{one_listing};
+ghost use Rattle.cc_model.specs.Listing.{test_item, Listing, counts_of};
+ghost use Rattle.cc_model.specs.Report.{item_line, total, incomplete_line, last_line, verdict_of};
+ghost use Rattle.search_dfs.specs.Explored.{Sums};
 
-use crate::report::{Report, bounds_line, complete_line};
-use cc_model::base::{Bounds, End, NoMemory, Test};
+use crate::report::complete_line;
+use cc_model::base::{NoMemory, Test};
 use input_map::write_test;
 use itoa::Buffer;
+use search_dfs::Summary;
 use std::alloc::Global;
 
 /// The line of a test. Each object of its path has to have a letter.
@@ -54,57 +52,42 @@ pub fn incomplete_line(
     Ok(line)
 }
 
-/// Whether the bound on steps ended a run.
-fn ends_at_steps(end: End) -> bool
-    ensures { at_steps end ≡ (if result then 1 else 0) }
+/// Whether the five counts of a search are zero.
+fn is_complete(summary: &Summary) -> bool
+    ensures { (l : Listing) → Sums l summary.now → result ≡ nat_eq (total (counts_of l)) 0 }
 {
-    match end {
-        End::Steps => true,
-        End::Return => false,
-        End::Assume => false,
-        End::Cut => false,
-        End::Objects => false,
-        End::Fault(_, _) => false,
-    }
+    summary.terms == 0
+        && summary.spent == 0
+        && summary.steps == 0
+        && summary.strays == 0
+        && summary.unrun == 0
 }
 
-/// The last line of the report on one test with this end.
-fn one_last_line(alloc: Global, end: End) -> Result<Vec<u8>, NoMemory>
-    ensures { IfOk result (λ line. (b : Limits) (t : Tried) → t.end ≡ end → line.items ≡ last_line (one_listing b t)) }
+/// The last line of the report on a search.
+pub fn last_line(alloc: Global, summary: &Summary) -> Result<Vec<u8>, NoMemory>
+    ensures { IfOk result (λ line. (l : Listing) → Sums l summary.now → line.items ≡ last_line l) }
 {
-    if ends_at_steps(end) {
-        return incomplete_line(alloc, 0, 0, 1, 0, 0);
+    if is_complete(summary) {
+        return complete_line(alloc, summary.paths, summary.runs);
     }
-    complete_line(alloc, 1, 1)
+    incomplete_line(
+        alloc,
+        summary.terms,
+        summary.spent,
+        summary.steps,
+        summary.strays,
+        summary.unrun,
+    )
 }
 
-/// The status of the report on one test with this end.
-fn one_verdict(end: End) -> u8
-    ensures { (b : Limits) (t : Tried) → t.end ≡ end → result ≡ verdict_of (one_listing b t) }
+/// The status of the report on a search.
+pub fn verdict(summary: &Summary) -> u8
+    ensures { (l : Listing) → Sums l summary.now → result ≡ verdict_of l }
 {
-    match end {
-        End::Steps => 10,
-        End::Fault(_, _) => 1,
-        End::Return => 0,
-        End::Assume => 0,
-        End::Cut => 0,
-        End::Objects => 0,
+    match (is_complete(summary), summary.fault) {
+        (true, false) => 0,
+        (true, true) => 1,
+        (false, false) => 10,
+        (false, true) => 11,
     }
-}
-
-/// The report on one test: the listing of it alone, without a term. Each object of its path has to have a letter.
-pub fn one_report(alloc: Global, bounds: &Bounds, test: &Test) -> Result<Report, NoMemory>
-    requires { All HasByte (test.now).path }
-    ensures text { IfOk result (λ r. text_of r ≡ report_text (one_listing bounds.now test.now)) }
-    ensures verdict { IfOk result (λ r. r.status ≡ verdict_of (one_listing bounds.now test.now)) }
-{
-    let first = bounds_line(alloc, bounds)?;
-    let line = test_line(alloc, test)?;
-    let last = one_last_line(alloc, test.end)?;
-    Ok(Report {
-        bounds: first,
-        test: line,
-        last,
-        status: one_verdict(test.end),
-    })
 }

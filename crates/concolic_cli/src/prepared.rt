@@ -1,34 +1,23 @@
 //! From the bytes of a source to what is written of its tested function.
 
-ghost use Rattle.std.specs.Prelude.{◌≡◌, ℕ, ◌^◌, ◌<◌, ◌≤◌, ◌↔◌, IfOk, IfErr, IsTrue, List, [], All, length};
-ghost use Rattle.cc_base.specs.Limits.{Limits};
-ghost use Rattle.cc_base.specs.Outcomes.{HasByte};
-ghost use Rattle.cc_base.specs.declared.inputs.Input.{Input as PlainInput};
+ghost use Rattle.std.specs.Prelude.{◌≡◌, ℕ, ◌^◌, ◌<◌, ◌≤◌, IfOk, IfErr, length};
 ghost use Rattle.cc_model.specs.CheckedProgram.{core_of};
-ghost use Rattle.cc_model.specs.declared.checked.Checked.{Checked as PlainChecked};
-ghost use Rattle.cc_model.specs.Conditions.{events_of};
 ghost use Rattle.cc_model.specs.Runs.{IsInput};
-ghost use Rattle.cc_laws.specs.LinearForms.{linear};
-ghost use Rattle.sym_run.specs.Traces.{IsTrace};
-ghost use Rattle.concolic_cli.specs.Listings.{IsFree, AreFree, test_at};
-ghost use Rattle.concolic_cli.specs.Lines.{text_of};
-ghost use Rattle.concolic_cli.specs.Prepared.{IsRead, IsRun, ReportsIf, IsTraced};
+ghost use Rattle.concolic_cli.specs.Compiling.{IsCompiled};
+ghost use Rattle.concolic_cli.specs.Prepared.{IsRead, IsRun, IsTraced};
+ghost use Rattle.concolic_cli.specs.Programs.{IsNoProgram};
 ghost use Rattle.concolic_cli.specs.Session.{SourceCause};
-ghost use Rattle.concolic_cli.specs.Tasks.{ListsAs, list, trace};
+ghost use Rattle.concolic_cli.specs.Tasks.{trace};
 
-use crate::listing::one_report;
 use crate::map_words::read_input;
-use crate::one_run::a_run_that_asks_nothing_is_a_listing;
 use crate::program::{Source, read_program};
 use crate::refusal::Refusal;
-use crate::report::Report;
 use cc_laws::a_checked_program_points_to_cells;
-use cc_model::base::{Bounds, Input, NoMemory, Test};
-use cc_model::{Checked, RunWords};
-use input_map::base_input;
+use cc_model::Checked;
+use cc_model::base::{Bounds, Input, NoMemory};
 use std::alloc::Global;
-use sym_run::{Event, Term, Trace, run};
-use tac_lower::lower;
+use sym_run::{Trace, run};
+use tac_lower::{Tac, lower};
 
 /// The run of a checked program on an input within the bounds.
 fn run_on(
@@ -48,75 +37,26 @@ fn run_on(
     Ok(trace)
 }
 
-/// Whether no event has another outcome.
-fn offer_nothing(events: &[Event]) -> bool
-    ensures { IsTrue result ↔ All (λ e. e.others ≡ []) events.now }
-{
-    events.iter().all(|event| event.others.is_empty())
+/// A checked program, and its code.
+#[derive(Drop)]
+pub struct Compiled {
+    pub checked: Checked,
+    pub tac: Tac,
 }
 
-/// Whether there is no term.
-fn no_term(terms: &[Term]) -> bool
-    ensures { IsTrue result ↔ (terms.now ≡ []) }
-{
-    terms.is_empty()
-}
-
-/// Whether a run asks nothing of its input: no event has another outcome, and none belongs to a term.
-fn asks_nothing(trace: &Trace) -> bool
-    ensures { (c : PlainChecked) (b : Limits) (h : PlainInput) → IsTrace c b h trace.now
-        → IsTrue result ↔ AreFree (events_of linear (core_of c) b h) }
-{
-    no_term(trace.terms.as_slice()) && offer_nothing(trace.events.as_slice())
-}
-
-/// The test of a run.
-fn test_of(alloc: Global, trace: Trace) -> Result<Test, NoMemory>
-    ensures bytes { (c : PlainChecked) (b : Limits) → IsRun c b trace → IfOk result (λ t. All HasByte t.path) }
-    ensures test { (c : PlainChecked) (b : Limits) → IsRun c b trace → IfOk result (λ t. t ≡ test_at (core_of c) b trace.input) }
-{
-    let path = trace.path(alloc)?;
-    let Trace { input, end, .. } = trace;
-    Ok(Test { path, end, input })
-}
-
-/// The report on a checked program; None where its run on the base input asks something of the input.
-fn report_on(alloc: Global, checked: &Checked, words: &RunWords) -> Result<Option<Report>, NoMemory>
-    requires read { IsRead checked.now }
-    requires runs { 1 ≤ words.now.runs }
-    ensures { IfOk result (λ r. ReportsIf (core_of checked.now) words.now.bounds words.now.runs words.now.budget r) }
+/// The program of a source, checked, and its code.
+pub fn compile(alloc: Global, source: &[u8], entry: &str) -> Result<Compiled, Refusal>
+    requires { length source.now ≤ 1048576 }
+    ensures compiled { IfOk result (λ c. IsCompiled source.now entry.now c) }
+    ensures refused { IfErr result (λ e. IsNoProgram source.now entry.now e) }
 {
     a_checked_program_points_to_cells();
-    a_run_that_asks_nothing_is_a_listing();
-    let input = base_input(alloc, checked, &words.bounds)?;
-    let trace = run_on(alloc, checked, &input, &words.bounds)?;
-    if !asks_nothing(&trace) {
-        return Ok(None);
-    }
-    let test = test_of(alloc, trace)?;
-    let report = one_report(alloc, &words.bounds, &test)?;
-    Ok(Some(report))
-}
-
-/// The report on a source's tested function.
-pub fn prepare_list(
-    alloc: Global,
-    source: &[u8],
-    entry: &str,
-    words: &RunWords,
-) -> Result<Report, Refusal>
-    requires size { length source.now ≤ 1048576 }
-    requires runs { 1 ≤ words.now.runs }
-    ensures reports { IfOk result (λ r. ListsAs source.now entry.now words.now.bounds words.now.runs words.now.budget (text_of r) r.status) }
-    ensures refused { IfErr result (λ e. SourceCause source.now entry.now (list words.now.bounds words.now.runs words.now.budget) e) }
-{
-    let read = match read_program(alloc, source, entry) {
+    let Source { checked, .. } = match read_program(alloc, source, entry) {
         Ok(read) => read,
         Err(refusal) => return Err(refusal),
     };
-    match report_on(alloc, &read.checked, words) {
-        Ok(Some(report)) => Ok(report),
-        Ok(None) => Err(Refusal::NotYet),
+    match lower(alloc, &checked) {
+        Ok(tac) => Ok(Compiled { checked, tac }),
         Err(NoMemory) => Err(Refusal::NoMemory),
     }
 }

@@ -47,8 +47,6 @@ pub enum Refusal {
     FileFailed,
     /// The line of the source, from 1, and what is wrong there.
     Source(u32, Wrong),
-    /// The program is accepted, and the run on its base input asks something of the input, which isn't searched so far.
-    NotYet,
     /// No function with a body has the entry's name.
     NoEntry,
     /// Why the word MAP is the map text of no input within the bounds; never want of memory.

@@ -40,15 +40,6 @@ pub fn complete_line(alloc: Global, paths: u64, runs: u64) -> Result<Vec<u8>, No
     Ok(line)
 }
 
-/// The lines of a report on one test, and the status.
-#[derive(Drop)]
-pub struct Report {
-    pub bounds: Vec<u8>,
-    pub test: Vec<u8>,
-    pub last: Vec<u8>,
-    pub status: u8,
-}
-
 /// Whether a run ends as a fault.
 pub fn is_fault(end: End) -> bool
     ensures { result ≡ is_fault end }

@@ -1,14 +1,16 @@
 //! A session: from the file of a source to what is written of its tested function.
 
-ghost use Rattle.std.specs.Prelude.{◌≡◌, ◌^◌, ◌<◌, ◌≤◌, IfOk, IfErr, length};
+ghost use Rattle.std.specs.Prelude.{◌≡◌, ◌^◌, ◌<◌, ◌≤◌, IfOk, IfErr, Option, option_map, length};
+ghost use Rattle.cc_base.specs.Paths.{Path};
 ghost use Rattle.concolic_cli.specs.Session.{ReadAs, FileCause, Ends};
-ghost use Rattle.concolic_cli.specs.Tasks.{list, trace};
+ghost use Rattle.concolic_cli.specs.Tasks.{IsPathOf, list, trace};
 
+use crate::after::path_if;
 use crate::answers::Status;
-use crate::prepared::{prepare_list, prepare_trace};
+use crate::prepared::{compile, prepare_trace};
 use crate::refusal::Refusal;
+use crate::searching::write_listing;
 use crate::tracing::write_trace;
-use crate::writing::write_report;
 use cc_model::RunWords;
 use cc_model::base::Bounds;
 use cc_outside::{Files, LoadFault, Sink};
@@ -32,17 +34,20 @@ fn read_source<F: Files>(alloc: Global, files: &mut F, file: &str) -> Result<Vec
     }
 }
 
-/// Lists the tests of the function `entry` of the source in `file`, and writes the report.
+/// Lists the tests of the function `entry` of the source in `file`, above the path of the word `after` where there is one, and
+/// writes the report.
 pub fn list_tests<F: Files, K: Sink>(
     alloc: Global,
     words: &RunWords,
+    after: Option<&str>,
     file: &str,
     entry: &str,
     files: &mut F,
     out: &mut K,
 ) -> Result<Status, Refusal>
-    requires { 1 ≤ (words.now).runs }
-    ensures ends { Ends (record {
+    requires runs { 1 ≤ (words.now).runs }
+    requires after { (p : Option Path) × IsPathOf (option_map (λ w. w.now) after) p }
+    ensures ends { (p : Option Path) → IsPathOf (option_map (λ w. w.now) after.entry) p → Ends (record {
       held = F.held files.old;
       files_old = F.faults files.old;
       files_new = F.faults files.new;
@@ -50,15 +55,30 @@ pub fn list_tests<F: Files, K: Sink>(
       out_new = K.written out.new;
       faults_old = K.faults out.old;
       faults_new = K.faults out.new;
-    }) (record { file = file.now; entry = entry.now; work = list (words.now).bounds (words.now).runs (words.now).budget }) result }
+    }) (record { file = file.now; entry = entry.now; work = list (words.now).bounds (words.now).runs (words.now).budget p }) result }
     ensures held { F.held files.new ≡ F.held files.old }
 {
+    let Ok(path) = path_if(alloc, after) else {
+        return Err(Refusal::NoMemory);
+    };
     let source = read_source(alloc, files, file)?;
-    let report = prepare_list(alloc, &source, entry, words)?;
-    if let Err(refusal) = write_report(out, &report) {
-        return Err(refusal);
-    }
-    Ok(Status(report.status))
+    let compiled = match compile(alloc, &source, entry) {
+        Ok(compiled) => compiled,
+        Err(refusal) => return Err(refusal),
+    };
+    let status = match write_listing(
+        alloc,
+        &compiled,
+        &words.bounds,
+        words.runs,
+        words.budget,
+        path.as_ref(),
+        out,
+    ) {
+        Ok(status) => status,
+        Err(refusal) => return Err(refusal),
+    };
+    Ok(status)
 }
 
 /// Writes what the run of the function `entry` of the source in `file` does on the input of a map text.

@@ -1,13 +1,16 @@
 //! The words of a command line, and the command that they give.
 
-ghost use Rattle.std.specs.Prelude.{◌≡◌, ℕ, ◌^◌, ◌<◌, ◌≤◌, ◌≤ℤ◌, ℤ, pos, List, [], ◌∷◌, IsTrue, IfOk, IfErr, IfSome, IfNone, codes, Some, Ok, Err, take, drop, length, ◌+◌};
+ghost use Rattle.std.specs.Prelude.{◌≡◌, ℕ, ◌^◌, ◌<◌, ◌≤◌, ◌≤ℤ◌, ℤ, pos, List, [], ◌∷◌, All, map, IsTrue, IfOk, IfErr, IfSome, IfNone, codes, Some, Ok, Err, take, drop, length, ◌+◌};
 ghost use Rattle.std.specs.Fmt.{signed_decimal};
-ghost use Rattle.concolic_cli.specs.Words.{texts, IsNumber, Accepted, BadWord, range_of, behind, IsGiven, min_option, max_option, AreBounds, run_options, trace_options};
+ghost use Rattle.concolic_cli.specs.Words.{texts, IsNumber, IsPath, IsValue, Accepted, BadWord, takes_of, behind, place_behind, IsGiven, min_option, max_option, AreBounds, run_options, trace_options};
 ghost use Rattle.concolic_cli.specs.Options.{seen, IsTable, Fits, IsBadAt};
 ghost use Rattle.cc_base.specs.Limits.{Limits};
+ghost use Rattle.cc_base.specs.Outcomes.{byte_of, HasByte};
+ghost use Rattle.cc_base.specs.Paths.{Path};
+ghost use Rattle.cc_base.specs.declared.outcomes.Outcome.{Outcome as Seen};
 ghost use Rattle.cc_model.specs.declared.commands.Command.{Command};
 
-use cc_model::base::Bounds;
+use cc_model::base::{Bounds, Outcome};
 use cc_model::{Command, RunWords, Strategy, TraceWords};
 use itoa::Buffer;
 
@@ -40,21 +43,73 @@ fn number_of(word: &str, low: i32, high: i32) -> Option<i32>
     }
 }
 
-/// The number of the range whose decimal text `word` is; None exactly where there is none.
-fn number_in(word: &str, range: Range) -> Option<i32>
-    ensures some { IfSome result (λ z. IsNumber word.now range.least range.greatest z) }
-    ensures none { IfNone result ((z : ℤ) → IsNumber word.now range.least range.greatest z → ⊥) }
+/// Whether `word` is the decimal text of a number of the range.
+fn is_in(word: &str, range: Range) -> bool
+    ensures yes { IsTrue result → (z : ℤ) × IsNumber word.now range.least range.greatest z }
+    ensures no { (z : ℤ) → IsNumber word.now range.least range.greatest z → IsTrue result }
 {
-    number_of(word, range.least, range.greatest)
+    number_of(word, range.least, range.greatest).is_some()
 }
 
-/// The option of the name in the table; None where no option has it.
-fn range_of(options: &[(&str, Range)], name: &str) -> Option<Range>
-    ensures { result ≡ range_of (seen options.now) name.now }
+/// Whether the byte is that of an outcome.
+fn is_outcome(byte: u8) -> bool
+    ensures yes { IsTrue result → (o : Seen) × HasByte o × (byte_of o ≡ byte) }
+    ensures no { (o : Seen) → HasByte o → byte_of o ≡ byte → IsTrue result }
 {
-    for (option, range) in options {
+    Outcome::from_byte(byte).is_some()
+}
+
+/// Whether each byte is that of an outcome.
+fn are_outcomes(bytes: &[u8]) -> bool
+    ensures yes { IsTrue result → (p : Path) × All HasByte p × (bytes.now ≡ map byte_of p) }
+    ensures no { (p : Path) → All HasByte p → bytes.now ≡ map byte_of p → IsTrue result }
+{
+    for byte in bytes {
+        if !is_outcome(*byte) {
+            return false;
+        }
+    }
+    true
+}
+
+/// Whether `word` is the text of a path: one or more bytes of outcomes, or ~ for the empty path.
+fn is_path(word: &str) -> bool
+    ensures yes { IsTrue result → (p : Path) × IsPath word.now p }
+    ensures no { (p : Path) → IsPath word.now p → IsTrue result }
+{
+    if word == "~" {
+        return true;
+    }
+    !word.is_empty() && are_outcomes(word.as_bytes())
+}
+
+/// What an option takes.
+#[derive(Clone, Copy)]
+enum Takes {
+    /// A number of the range.
+    Number(Range),
+    /// A path.
+    PathText,
+}
+
+/// Whether `word` is what the option takes.
+fn is_value(takes: Takes, word: &str) -> bool
+    ensures yes { IsTrue result → IsValue takes word.now }
+    ensures no { IsValue takes word.now → IsTrue result }
+{
+    match takes {
+        Takes::Number(range) => is_in(word, range),
+        Takes::PathText => is_path(word),
+    }
+}
+
+/// What the option of the name takes, in the table; None where no option has the name.
+fn takes_of(options: &[(&str, Takes)], name: &str) -> Option<Takes>
+    ensures { result ≡ takes_of (seen options.now) name.now }
+{
+    for (option, takes) in options {
         if name == *option {
-            return Some(*range);
+            return Some(*takes);
         }
     }
     None
@@ -90,6 +145,20 @@ fn value_behind<'a>(words: &'a [String], name: &str) -> Option<&'a str>
         return Some(second.word);
     }
     value_behind(second.rest, name)
+}
+
+/// The number of the first word behind the name, in pairs of a name and another word, where `before` words stand before them; None
+/// where the name does not stand.
+fn place_behind(words: &[String], name: &str, before: u32) -> Option<u32>
+    requires { before + length words.now ≤ 1000 }
+    ensures { result ≡ place_behind name.now before (texts words.now) }
+{
+    let first = first_of(words)?;
+    let second = first_of(first.rest)?;
+    if first.word == name {
+        return Some(before + 2);
+    }
+    place_behind(second.rest, name, before + 2)
 }
 
 /// The number of the option of the name, among options that a form takes.
@@ -152,7 +221,7 @@ fn is_new(words: &[String], name: &str) -> bool
 }
 
 /// The place, from 0, of the first bad word of the options, where those before `at` are no bad words; None where none is bad.
-fn bad_option(options: &[(&str, Range)], words: &[String], at: usize) -> Option<usize>
+fn bad_option(options: &[(&str, Takes)], words: &[String], at: usize) -> Option<usize>
     requires { at ≤ length words.now }
     ensures some { IfSome result (λ n. IsTable (seen options.now) → Fits (seen options.now) (texts (take at words.now))
         → IsBadAt (seen options.now) (texts words.now) n) }
@@ -160,7 +229,7 @@ fn bad_option(options: &[(&str, Range)], words: &[String], at: usize) -> Option<
         → Fits (seen options.now) (texts words.now)) }
 {
     let name = first_of(later_words(words, at))?;
-    let Some(range) = range_of(options, name.word) else {
+    let Some(takes) = takes_of(options, name.word) else {
         return Some(at);
     };
     if !is_new(first_words(words, at), name.word) {
@@ -169,9 +238,9 @@ fn bad_option(options: &[(&str, Range)], words: &[String], at: usize) -> Option<
     let Some(value) = first_of(name.rest) else {
         return Some(at + 1);
     };
-    let Some(_number) = number_in(value.word, range) else {
+    if !is_value(takes, value.word) {
         return Some(at + 1);
-    };
+    }
     if !is_ordered(first_words(words, at + 2)) {
         return Some(at + 1);
     }
@@ -213,27 +282,31 @@ const SOLVER: Range = Range {
 };
 
 /// The options of `run`.
-const RUN_OPTIONS: [(&str, Range); 5] = [
-    ("-min", MIN),
-    ("-max", MAX),
-    ("-objects", OBJECTS),
-    ("-steps", STEPS),
-    ("-solver", SOLVER),
+const RUN_OPTIONS: [(&str, Takes); 6] = [
+    ("-min", Takes::Number(MIN)),
+    ("-max", Takes::Number(MAX)),
+    ("-objects", Takes::Number(OBJECTS)),
+    ("-steps", Takes::Number(STEPS)),
+    ("-solver", Takes::Number(SOLVER)),
+    ("-after", Takes::PathText),
 ];
 
 /// The options of `trace`.
-const TRACE_OPTIONS: [(&str, Range); 5] = [
-    ("-min", MIN),
-    ("-max", MAX),
-    ("-objects", OBJECTS),
-    ("-steps", STEPS),
-    ("-depth", DEPTH),
+const TRACE_OPTIONS: [(&str, Takes); 5] = [
+    ("-min", Takes::Number(MIN)),
+    ("-max", Takes::Number(MAX)),
+    ("-objects", Takes::Number(OBJECTS)),
+    ("-steps", Takes::Number(STEPS)),
+    ("-depth", Takes::Number(DEPTH)),
 ];
+
+/// How many branches a made program has at most.
+const MAX_BRANCHES: i32 = 1024;
 
 /// The place of the first bad word of the options of `run`; None where none is bad.
 fn bad_run_option(words: &[String]) -> Option<usize>
     ensures some { IfSome result (λ n. IsBadAt run_options (texts words.now) n) }
-    ensures small { IfSome result (λ n. n ≤ 10) }
+    ensures small { IfSome result (λ n. n ≤ 12) }
     ensures none { IfNone result (Fits run_options (texts words.now)) }
 {
     bad_option(&RUN_OPTIONS, words, 0)
@@ -341,7 +414,7 @@ fn read_run(words: &[String]) -> Result<Command, u32>
         bounds: bounds_with(options, depth.number),
         budget: natural_given(options, "-solver", SOLVER) as u64,
         seed: 0,
-        after: None,
+        after: place_behind(options, "-after", 6),
     }))
 }
 
@@ -372,6 +445,20 @@ fn read_trace(words: &[String]) -> Result<Command, u32>
     }))
 }
 
+/// The command of the words behind `make`.
+fn read_make(words: &[String]) -> Result<Command, u32>
+    ensures accepted { IfOk result (λ c. Accepted (codes "make" ∷ texts words.now) c) }
+    ensures bad { IfErr result (λ n. BadWord (codes "make" ∷ texts words.now) n) }
+{
+    let Some(branches) = behind_number(words, MAX_BRANCHES) else {
+        return Err(2);
+    };
+    match first_of(branches.rest) {
+        Some(_word) => Err(3),
+        None => Ok(Command::Make(branches.number)),
+    }
+}
+
 /// The command, by the first word.
 fn read(words: &[String]) -> Result<Command, u32>
     ensures accepted { IfOk result (λ c. Accepted (texts words.now) c) }
@@ -380,19 +467,23 @@ fn read(words: &[String]) -> Result<Command, u32>
     if let Some(rest) = behind_keyword(words, "run") {
         return read_run(rest);
     }
-    let Some(rest) = behind_keyword(words, "trace") else {
+    if let Some(rest) = behind_keyword(words, "trace") {
+        return read_trace(rest);
+    }
+    let Some(rest) = behind_keyword(words, "make") else {
         return Err(1);
     };
-    read_trace(rest)
+    read_make(rest)
 }
 
 /// The command that the words of a command line give, the program's name left out.
 ///
-/// The forms are `run FILE ENTRY N -dfs D` and `trace FILE ENTRY MAP`, with options behind them. FILE, ENTRY and MAP are
-/// any words, N is from 1 to 1,000,000, and D from 1 to 1,024. The options stand in any order, each at most once and each
-/// with a number behind it: `-min` and `-max` any of 32 bits, the first at most the second, where they are not given
-/// the least and the greatest; `-objects` 1 to 25, else 8; `-steps` 1 to 1,000,000, else 100,000; for `run` also
-/// `-solver` 1 to 100,000,000, else 20,000, and for `trace` `-depth` 1 to 1,024, else 1,024.
+/// The forms are `run FILE ENTRY N -dfs D` and `trace FILE ENTRY MAP`, with options behind them, and `make N`. FILE, ENTRY and
+/// MAP are any words, N of `run` is from 1 to 1,000,000, D and N of `make` from 1 to 1,024. The options stand in any order, each
+/// at most once and each with a word behind it: `-min` and `-max` any number of 32 bits, the first at most the second, where they
+/// are not given the least and the greatest; `-objects` 1 to 25, else 8; `-steps` 1 to 1,000,000, else 100,000; for `run` also
+/// `-solver` 1 to 100,000,000, else 20,000, and `-after` one or more of the outcomes' bytes `! + - . F T a..z`, or `~`; for
+/// `trace` `-depth` 1 to 1,024, else 1,024.
 /// A number is decimal, without a plus, without leading zeros, and 0 has no minus.
 ///
 /// An error is the number of the bad word, from 1: the least n such that the first n words begin no accepted list, or

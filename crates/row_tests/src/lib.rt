@@ -6,6 +6,8 @@ mod faults;
 #[cfg(test)]
 mod rows;
 #[cfg(test)]
+mod searches;
+#[cfg(test)]
 mod traces;
 #[cfg(test)]
 mod words;

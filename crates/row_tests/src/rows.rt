@@ -254,25 +254,7 @@ fn refusals(rt: HostRuntime) -> Result<(), Fail> {
             3,
         ),
         refused("", "run u.c f 10 -dfs 1", "file u.c: missing\n", 4),
-        refused(
-            "int f(int x) { if (x) return 1; return 0; }",
-            "run t.c f 10 -dfs 1",
-            "run not yet\n",
-            3,
-        ),
-        refused(
-            "int f(void) { int x; CREST_int(x); return x + 1; }",
-            "run t.c f 10 -dfs 1",
-            "run not yet\n",
-            3,
-        ),
-        refused(
-            "int f(int x) { int y = x * x; return 0; }",
-            "run t.c f 10 -dfs 2",
-            "run not yet\n",
-            3,
-        ),
-        // A name that isn't there comes before what isn't run yet, and a fault before both.
+        // A fault comes before a name that isn't there.
         refused(
             "int f(int x) { return 0; }",
             "run t.c g 10 -dfs 1",
@@ -352,7 +334,6 @@ fn maps(rt: HostRuntime) -> Result<(), Fail> {
         ("trace t.c f 0,0/", "map: malformed at 5\n"),
         ("trace t.c f 0,00", "map: malformed at 4\n"),
         ("trace t.c f ~", "map: short\n"),
-        ("run t.c f 10 -dfs 5", "run not yet\n"),
     ];
     for (words, error) in rows {
         check(&rt, &refused(TWO_CELLS, words, error, 3))?;

@@ -91,6 +91,35 @@ fn takes_run(rt: HostRuntime) -> Result<(), Fail> {
 }
 
 #[test]
+fn takes_a_path(rt: HostRuntime) -> Result<(), Fail> {
+    for (text, after) in [
+        ("run t.c f 1 -dfs 1 -after ~", Some(8)),
+        ("run t.c f 1 -dfs 1 -min 1 -after TT+..az", Some(10)),
+        ("run t.c f 1 -dfs 1 -after -after", None),
+    ] {
+        let command = read_text(rt.alloc(), text)?;
+        let number = match command {
+            Ok(Command::Run(run)) => run.after,
+            _ => None,
+        };
+        assert_eq!(rt; number, after, "{text}");
+    }
+    Ok(())
+}
+
+#[test]
+fn takes_make(rt: HostRuntime) -> Result<(), Fail> {
+    for (text, number) in [("make 1", 1), ("make 1024", 1024)] {
+        let command = read_text(rt.alloc(), text)?;
+        let Ok(Command::Make(branches)) = command else {
+            return Err(Fail::from("refused"));
+        };
+        assert_eq!(rt; branches, number, "{text}");
+    }
+    Ok(())
+}
+
+#[test]
 fn takes_trace(rt: HostRuntime) -> Result<(), Fail> {
     for (text, numbers, more) in [
         ("trace t.c f 3", (i32::MIN, i32::MAX), (1024, 8, 100_000)),
@@ -137,6 +166,18 @@ const REFUSED: &str = "1
 5 run t.c f 10 -bfs 1
 6 run t.c f 10 -dfs 1025
 7 run t.c f 10 -dfs 5 7
+8 run t.c f 10 -dfs 5 -after
+8 run t.c f 10 -dfs 5 -after TX
+8 run t.c f 10 -dfs 5 -after T~
+8 run t.c f 10 -dfs 5 -after ~~
+8 run t.c f 10 -dfs 5 -after A
+9 run t.c f 10 -dfs 5 -after T -after T
+12 run t.c f 10 -dfs 5 -after !+-.FTaz -min 5 -max
+2 make
+2 make 0
+2 make 1025
+2 make 01
+3 make 200 1
 8 run t.c f 10 -dfs 5 -min
 10 run t.c f 10 -dfs 5 -min 5 -max 4
 10 run t.c f 10 -dfs 5 -max 4 -min 5
@@ -160,6 +201,7 @@ const REFUSED: &str = "1
 3 trace t.c
 4 trace t.c f
 5 trace t.c f 3 -solver 5
+5 trace t.c f 3 -after T
 6 trace t.c f 3 -depth 0
 6 trace t.c f 3 -depth 1025
 9 trace t.c f 3 -depth 5 -max 1 -depth";

@@ -2,8 +2,5 @@
 use Rattle.std.proofs.Common.{inl, refl}
 use Rattle.concolic_cli.proofs.answers.refuse.Goals as goal
 
-pub returns-in-NotYet : goal.returns-in-NotYet
-returns-in-NotYet g c = rw c.in-NotYet.is (inl (refl, c.say-in-NotYet.ensures))
-
 pub returns-in-OutputFailed : goal.returns-in-OutputFailed
 returns-in-OutputFailed g c = rw c.in-OutputFailed.is (inl (refl, c.say-in-OutputFailed.ensures))

@@ -7,7 +7,7 @@ pub returns-clause-headline : goal.returns-clause-headline
 returns-clause-headline g c = λ words. promise.headline _ _ c.one_command.ensures (ending _ _ c.answer.ensures.answered) words
 
 pub returns-clause-listed : goal.returns-clause-listed
-returns-clause-listed g c = λ words. promise.listed _ _ c.one_command.ensures (ending _ _ c.answer.ensures.answered) words
+returns-clause-listed g c = λ run after. promise.listed _ _ c.one_command.ensures (ending _ _ c.answer.ensures.answered) run after
 
 pub returns-clause-traced : goal.returns-clause-traced
 returns-clause-traced g c = λ words. promise.traced _ _ c.one_command.ensures (ending _ _ c.answer.ensures.answered) words
@@ -46,7 +46,7 @@ pub returns-clause-run_alone : goal.returns-clause-run_alone
 returns-clause-run_alone g c = promise.run_alone _ _ c.one_command.ensures (ending _ _ c.answer.ensures.answered)
 
 pub returns-clause-complete : goal.returns-clause-complete
-returns-clause-complete g c = λ run bytes a i s. promise.complete _ _ c.one_command.ensures (ending _ _ c.answer.ensures.answered) c.one_program.ensures run bytes a i s
+returns-clause-complete g c = λ run after bytes paths a n i s few. promise.complete _ _ c.one_command.ensures (ending _ _ c.answer.ensures.answered) c.one_program.ensures run after bytes paths a n i s few
 
 pub returns-clause-complete_trace : goal.returns-clause-complete_trace
 returns-clause-complete_trace g c = λ trace bytes h a i m s. promise.complete_trace _ _ c.one_command.ensures (ending _ _ c.answer.ensures.answered) c.one_program.ensures trace bytes h a i m s
@@ -57,8 +57,20 @@ returns-clause-refused_source g c = λ task bytes text a i. promise.refused_sour
 pub returns-clause-refused_map : goal.returns-clause-refused_map
 returns-clause-refused_map g c = λ trace bytes f a i s. promise.refused_map _ _ c.one_command.ensures (ending _ _ c.answer.ensures.answered) trace bytes f a i s
 
-pub returns-clause-not_yet : goal.returns-clause-not_yet
-returns-clause-not_yet g c = λ run bytes a i s. promise.not_yet _ _ c.one_command.ensures (ending _ _ c.answer.ensures.answered) run bytes a i s
+pub returns-clause-refused_make : goal.returns-clause-refused_make
+returns-clause-refused_make g c = λ n text a r. promise.refused_make _ _ c.one_command.ensures (ending _ _ c.answer.ensures.answered) n a c.one_program.ensures text r
+
+pub returns-clause-missed : goal.returns-clause-missed
+returns-clause-missed g c = λ words. promise.missed _ _ c.one_command.ensures (ending _ _ c.answer.ensures.answered) words
+
+pub returns-clause-made : goal.returns-clause-made
+returns-clause-made g c = λ n. promise.made _ _ c.one_command.ensures (ending _ _ c.answer.ensures.answered) n
+
+pub returns-clause-answers_make : goal.returns-clause-answers_make
+returns-clause-answers_make g c = λ n a. promise.answers_make _ _ c.one_command.ensures (ending _ _ c.answer.ensures.answered) n a
+
+pub returns-clause-answers_run : goal.returns-clause-answers_run
+returns-clause-answers_run g c = λ run after bytes p a n i s. promise.answers_run _ _ c.one_command.ensures (ending _ _ c.answer.ensures.answered) c.one_program.ensures run after bytes p a n i s
 
 pub returns-clause-missing_file : goal.returns-clause-missing_file
 returns-clause-missing_file g c = λ task h a told. promise.missing_file _ _ c.one_command.ensures (ending _ _ c.answer.ensures.answered) task a h told

@@ -1,7 +1,32 @@
-use Rattle.concolic_cli.proofs.Causes.{write_failed}
-use Rattle.concolic_cli.proofs.Reports.{list_begun}
+use Rattle.std.proofs.Common.{refl}
+use Rattle.concolic_cli.specs.Session.{nothing}
+use Rattle.concolic_cli.specs.Tasks.{list}
+use Rattle.std.proofs.lemmas.Result.{err_from_is_err_and}
+use Rattle.concolic_cli.proofs.Causes.{file_cause, source_refused, write_failed}
+use Rattle.concolic_cli.proofs.Sessions.{lent, list_written, list_begun}
 use Rattle.concolic_cli.proofs.session.list_tests.Goals as goal
 
+pub returns-in_default-clause-ends : goal.returns-in_default-clause-ends
+returns-in_default-clause-ends g c = λ p h. nothing refl
+
+pub returns-in_err-source-clause-ends : goal.returns-in_err-source-clause-ends
+returns-in_err-source-clause-ends g c = λ p h.
+    let q = err_from_is_err_and c.from_residual.result c.from_residual.ensures.1 in
+    rw (q.1, q.2) (file_cause _ (record { file = c.args.file.now; entry = c.args.entry.now; work = list c.args.words.now.bounds c.args.words.now.runs c.args.words.now.budget p }) c.in_err-source.field-0.0 c.in_err-source.ensures.file_refused refl)
+
 pub returns-in-Err-clause-ends : goal.returns-in-Err-clause-ends
-returns-in-Err-clause-ends g c =
-    write_failed _ _ c.in-Err.refusal (list_begun _ _ _ c.args.file.now c.args.entry.now c.in_ok-source.source.items c.deref.result.now _ c.deref.ensures.value c.in_ok-source.ensures.read _ _ c.in_ok-report.report c.in_ok-report.ensures.reports c.in-Err.ensures.part) c.in-Err.ensures.output_failed
+returns-in-Err-clause-ends g c = λ p h. source_refused _ (record { file = c.args.file.now; entry = c.args.entry.now; work = list c.args.words.now.bounds c.args.words.now.runs c.args.words.now.budget p }) c.in-Err.refusal c.in_ok-source.source.items c.deref.result.now c.deref.ensures.value c.in_ok-source.ensures.read c.in-Err.ensures.refused refl
+
+pub returns-in-Err-write_listing-clause-ends : goal.returns-in-Err-write_listing-clause-ends
+returns-in-Err-write_listing-clause-ends g c = λ p h.
+    let same = lent c.as_ref.result _ p c.as_ref.ensures.value (c.in-Ok.ensures p h) in
+    write_failed _ (record { file = c.args.file.now; entry = c.args.entry.now; work = list c.args.words.now.bounds c.args.words.now.runs c.args.words.now.budget p }) c.in-Err-write_listing.refusal
+    (list_begun _ _ _ c.args.file.now c.args.entry.now c.in_ok-source.source.items c.deref.result.now c.args.words.now.bounds c.args.words.now.runs c.args.words.now.budget p c.deref.ensures.value c.in_ok-source.ensures.read c.in-Ok-compile.compiled c.in-Ok-compile.ensures.compiled
+    _ same c.in-Err-write_listing.ensures.part)
+    c.in-Err-write_listing.ensures.cause
+
+pub returns-clause-ends : goal.returns-clause-ends
+returns-clause-ends g c = λ p h.
+    let same = lent c.as_ref.result _ p c.as_ref.ensures.value (c.in-Ok.ensures p h) in
+    list_written _ _ _ c.args.file.now c.args.entry.now c.in_ok-source.source.items c.deref.result.now c.args.words.now.bounds c.args.words.now.runs c.args.words.now.budget p c.deref.ensures.value c.in_ok-source.ensures.read c.in-Ok-compile.compiled c.in-Ok-compile.ensures.compiled
+    _ c.in-Ok-write_listing.status.0 same c.in-Ok-write_listing.ensures.ok

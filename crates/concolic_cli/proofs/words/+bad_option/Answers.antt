@@ -20,15 +20,15 @@ returns-then-not-is_new-clause-some t c table f =
 pub returns-in_default-first_of-clause-some : goal.returns-in_default-first_of-clause-some
 returns-in_default-first_of-clause-some t c table f = read_end (seen c.args.options.now) (texts c.args.words.now) (texts (take c.args.at c.args.words.now)) (texts_split c.args.words.now c.args.at) (taken_length c.args.words.now c.args.at c.requires) (sym c.later_words.ensures ∙ c.in_ok-name.ensures.some) (sym c.in-Some.ensures) (ap (λ (ws : Words). behind c.in_ok-name.name.word.now ws) (sym c.first_words.ensures) ∙ c.if-not-is_new.ensures.yes refl) table f c.in_default-first_of.ensures.none
 
-pub returns-in_default-number_in-clause-some : goal.returns-in_default-number_in-clause-some
-returns-in_default-number_in-clause-some t c table f = read_value (seen c.args.options.now) (texts c.args.words.now) (texts (take c.args.at c.args.words.now)) (texts_split c.args.words.now c.args.at) (taken_length c.args.words.now c.args.at c.requires) (sym c.later_words.ensures ∙ c.in_ok-name.ensures.some) (sym c.in-Some.ensures) (ap (λ (ws : Words). behind c.in_ok-name.name.word.now ws) (sym c.first_words.ensures) ∙ c.if-not-is_new.ensures.yes refl) table f c.in-Some-first_of.ensures.some c.in_default-number_in.ensures.none
+pub returns-then-not-is_value-clause-some : goal.returns-then-not-is_value-clause-some
+returns-then-not-is_value-clause-some t c table f = read_value (seen c.args.options.now) (texts c.args.words.now) (texts (take c.args.at c.args.words.now)) (texts_split c.args.words.now c.args.at) (taken_length c.args.words.now c.args.at c.requires) (sym c.later_words.ensures ∙ c.in_ok-name.ensures.some) (sym c.in-Some.ensures) (ap (λ (ws : Words). behind c.in_ok-name.name.word.now ws) (sym c.first_words.ensures) ∙ c.if-not-is_new.ensures.yes refl) table f c.in-Some-first_of.ensures.some (λ h. cc (c.if-not-is_value.ensures.no h))
 
 pub first_words-requires-2 : goal.first_words-requires-2
 first_words-requires-2 t c = pair_within c.args.words.now (texts (take c.args.at c.args.words.now)) (texts (drop c.args.at c.args.words.now)) _ _ _ _ c.args.at (texts_split c.args.words.now c.args.at) (taken_length c.args.words.now c.args.at c.requires) (sym c.later_words.ensures ∙ c.in_ok-name.ensures.some) c.in-Some-first_of.ensures.some
 
 pub returns-then-not-is_ordered-clause-some : goal.returns-then-not-is_ordered-clause-some
 returns-then-not-is_ordered-clause-some t c table f =
-    read_order (seen c.args.options.now) (texts c.args.words.now) (texts (take c.args.at c.args.words.now)) (texts_split c.args.words.now c.args.at) (taken_length c.args.words.now c.args.at c.requires) (sym c.later_words.ensures ∙ c.in_ok-name.ensures.some) (sym c.in-Some.ensures) (ap (λ (ws : Words). behind c.in_ok-name.name.word.now ws) (sym c.first_words.ensures) ∙ c.if-not-is_new.ensures.yes refl) table f c.in-Some-first_of.ensures.some c.in-Some-number_in.ensures.some
+    read_order (seen c.args.options.now) (texts c.args.words.now) (texts (take c.args.at c.args.words.now)) (texts_split c.args.words.now c.args.at) (taken_length c.args.words.now c.args.at c.requires) (sym c.later_words.ensures ∙ c.in_ok-name.ensures.some) (sym c.in-Some.ensures) (ap (λ (ws : Words). behind c.in_ok-name.name.word.now ws) (sym c.first_words.ensures) ∙ c.if-not-is_new.ensures.yes refl) table f c.in-Some-first_of.ensures.some (c.if-not-is_value.ensures.yes refl)
     (c.first_words-2.ensures ∙ with_pair c.args.words.now (texts (take c.args.at c.args.words.now)) (texts (drop c.args.at c.args.words.now)) _ _ _ _ c.args.at (texts_split c.args.words.now c.args.at) (taken_length c.args.words.now c.args.at c.requires) (sym c.later_words.ensures ∙ c.in_ok-name.ensures.some) c.in-Some-first_of.ensures.some)
     (λ lo hi g h k. cc (c.if-not-is_ordered.ensures.no lo hi g h k))
 
@@ -40,13 +40,13 @@ bad_option-requires t c =
 pub returns-clause-some : goal.returns-clause-some
 returns-clause-some t c =
     some_by c.bad_option.result _ _ (λ n k table f. k table (subst (Fits (seen c.args.options.now)) c.first_words-2.ensures
-    (read_pair (seen c.args.options.now) (texts c.args.words.now) (texts (take c.args.at c.args.words.now)) (texts_split c.args.words.now c.args.at) (taken_length c.args.words.now c.args.at c.requires) (sym c.later_words.ensures ∙ c.in_ok-name.ensures.some) (sym c.in-Some.ensures) (ap (λ (ws : Words). behind c.in_ok-name.name.word.now ws) (sym c.first_words.ensures) ∙ c.if-not-is_new.ensures.yes refl) table f c.in-Some-first_of.ensures.some c.in-Some-number_in.ensures.some
+    (read_pair (seen c.args.options.now) (texts c.args.words.now) (texts (take c.args.at c.args.words.now)) (texts_split c.args.words.now c.args.at) (taken_length c.args.words.now c.args.at c.requires) (sym c.later_words.ensures ∙ c.in_ok-name.ensures.some) (sym c.in-Some.ensures) (ap (λ (ws : Words). behind c.in_ok-name.name.word.now ws) (sym c.first_words.ensures) ∙ c.if-not-is_new.ensures.yes refl) table f c.in-Some-first_of.ensures.some (c.if-not-is_value.ensures.yes refl)
     (c.first_words-2.ensures ∙ with_pair c.args.words.now (texts (take c.args.at c.args.words.now)) (texts (drop c.args.at c.args.words.now)) _ _ _ _ c.args.at (texts_split c.args.words.now c.args.at) (taken_length c.args.words.now c.args.at c.requires) (sym c.later_words.ensures ∙ c.in_ok-name.ensures.some) c.in-Some-first_of.ensures.some)
     (c.if-not-is_ordered.ensures.yes refl)))) c.bad_option.ensures.some
 
 pub returns-clause-none : goal.returns-clause-none
 returns-clause-none t c =
     none_by c.bad_option.result _ _ (λ k table f. k table (subst (Fits (seen c.args.options.now)) c.first_words-2.ensures
-    (read_pair (seen c.args.options.now) (texts c.args.words.now) (texts (take c.args.at c.args.words.now)) (texts_split c.args.words.now c.args.at) (taken_length c.args.words.now c.args.at c.requires) (sym c.later_words.ensures ∙ c.in_ok-name.ensures.some) (sym c.in-Some.ensures) (ap (λ (ws : Words). behind c.in_ok-name.name.word.now ws) (sym c.first_words.ensures) ∙ c.if-not-is_new.ensures.yes refl) table f c.in-Some-first_of.ensures.some c.in-Some-number_in.ensures.some
+    (read_pair (seen c.args.options.now) (texts c.args.words.now) (texts (take c.args.at c.args.words.now)) (texts_split c.args.words.now c.args.at) (taken_length c.args.words.now c.args.at c.requires) (sym c.later_words.ensures ∙ c.in_ok-name.ensures.some) (sym c.in-Some.ensures) (ap (λ (ws : Words). behind c.in_ok-name.name.word.now ws) (sym c.first_words.ensures) ∙ c.if-not-is_new.ensures.yes refl) table f c.in-Some-first_of.ensures.some (c.if-not-is_value.ensures.yes refl)
     (c.first_words-2.ensures ∙ with_pair c.args.words.now (texts (take c.args.at c.args.words.now)) (texts (drop c.args.at c.args.words.now)) _ _ _ _ c.args.at (texts_split c.args.words.now c.args.at) (taken_length c.args.words.now c.args.at c.requires) (sym c.later_words.ensures ∙ c.in_ok-name.ensures.some) c.in-Some-first_of.ensures.some)
     (c.if-not-is_ordered.ensures.yes refl)))) c.bad_option.ensures.none

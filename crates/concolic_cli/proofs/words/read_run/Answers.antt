@@ -1,7 +1,10 @@
 -- What each word that is read, and the first that isn't, say of the list.
-use Rattle.std.proofs.Common.{sym, subst, refl, codes, pos}
-use Rattle.concolic_cli.specs.Words.{texts, IsNumber, run_options, solver_option}
-use Rattle.concolic_cli.proofs.OptionTables.{run_table, has_bounds, given_natural}
+use Rattle.std.proofs.Common.{sym, subst, refl, codes, pos, arith, ◌∷◌}
+use Rattle.concolic_cli.specs.declared.words.Takes.TheVariants.{PathText}
+use Rattle.concolic_cli.specs.Words.{texts, IsNumber, Accepted, run_words, run_options, solver_option}
+use Rattle.concolic_cli.proofs.OptionFits.{option_given}
+use Rattle.concolic_cli.proofs.OptionTables.{run_table, run_short, has_bounds, given_natural}
+use Rattle.concolic_cli.proofs.OptionReads.{texts_length}
 use Rattle.concolic_cli.proofs.Forms.{run_2, run_3, run_4, run_5, run_6, run_bad, run_whole}
 use Rattle.concolic_cli.proofs.words.read_run.Goals as goal
 
@@ -38,11 +41,18 @@ bounds_with-requires-clause-given c =
 
 pub natural_given-requires : goal.natural_given-requires
 natural_given-requires c =
-    given_natural (texts c.in-Some-behind_number-2.depth.rest.now) solver_option refl (c.in_default-bad_run_option.ensures.none.given (codes "-solver") solver_option.1 refl)
+    given_natural (texts c.in-Some-behind_number-2.depth.rest.now) solver_option refl (option_given run_options run_table (texts c.in-Some-behind_number-2.depth.rest.now) c.in_default-bad_run_option.ensures.none (codes "-solver") solver_option.1 refl)
+
+-- there are few options
+pub place_behind-requires : goal.place_behind-requires
+place_behind-requires c =
+    let few = run_short (texts c.in-Some-behind_number-2.depth.rest.now) c.in_default-bad_run_option.ensures.none in
+    omega (arith, few, texts_length c.in-Some-behind_number-2.depth.rest.now)
 
 pub returns-clause-accepted : goal.returns-clause-accepted
 returns-clause-accepted c =
     let runs = c.in-Some-behind_number.ensures.some in
     let depth = c.in-Some-behind_number-2.ensures.some in
-    run_whole c.in-Some.ensures.some c.in-Some-first_of.ensures.some runs.1 runs.2 c.in-Some-behind_keyword.ensures.some depth.1
-    (subst (λ k. IsNumber depth.0 (pos 1) (pos 1024) (pos k)) (sym c.bounds_with.ensures.depth) depth.2) c.in_default-bad_run_option.ensures.none.named c.bounds_with.ensures.bounds c.natural_given.ensures
+    subst (λ a. Accepted (codes "run" ∷ texts c.args.words.now) (run_words c.in-Some-behind_number.runs.number c.bounds_with.result c.natural_given.result a)) (sym c.place_behind.ensures)
+    (run_whole c.in-Some.ensures.some c.in-Some-first_of.ensures.some runs.1 runs.2 c.in-Some-behind_keyword.ensures.some depth.1
+    (subst (λ k. IsNumber depth.0 (pos 1) (pos 1024) (pos k)) (sym c.bounds_with.ensures.depth) depth.2) c.in_default-bad_run_option.ensures.none.named c.bounds_with.ensures.bounds c.natural_given.ensures (c.in_default-bad_run_option.ensures.none.given (codes "-after") PathText refl))

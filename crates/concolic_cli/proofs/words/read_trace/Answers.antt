@@ -1,6 +1,7 @@
 -- What each word that is read, and the first that isn't, say of the list.
 use Rattle.std.proofs.Common.{sym, subst, refl, codes, pos}
 use Rattle.concolic_cli.specs.Words.{texts, IsGiven, trace_options, depth_option}
+use Rattle.concolic_cli.proofs.OptionFits.{option_given}
 use Rattle.concolic_cli.proofs.OptionTables.{trace_table, has_bounds, given_natural}
 use Rattle.concolic_cli.proofs.Forms.{trace_2, trace_3, trace_4, trace_bad, trace_whole}
 use Rattle.concolic_cli.proofs.words.read_trace.Goals as goal
@@ -21,7 +22,7 @@ returns-in-Some-bad_trace_option-clause-bad c =
 -- the options fit
 pub natural_given-depth-requires : goal.natural_given-depth-requires
 natural_given-depth-requires c =
-    given_natural (texts c.in-Some-first_of-2.map.rest.now) depth_option refl (c.in_default-bad_trace_option.ensures.none.given (codes "-depth") depth_option.1 refl)
+    given_natural (texts c.in-Some-first_of-2.map.rest.now) depth_option refl (option_given trace_options trace_table (texts c.in-Some-first_of-2.map.rest.now) c.in_default-bad_trace_option.ensures.none (codes "-depth") depth_option.1 refl)
 
 pub bounds_with-requires-clause-given : goal.bounds_with-requires-clause-given
 bounds_with-requires-clause-given c =

@@ -1,0 +1,330 @@
+//! Searches and what they must write. A `?` in a line stands for a number that the search may choose.
+
+use cc_outside::{MemFiles, MemSink};
+use concolic_cli::concolic;
+use std::alloc::Global;
+use std::process::Abort;
+use std::test::Fail;
+
+/// Whether the text is that of the pattern, in which each `?` stands for a number.
+fn is_like(pattern: &str, text: &str) -> bool {
+    let Some((head, tail)) = pattern.split_once('?') else {
+        return pattern == text;
+    };
+    let Some(rest) = text.strip_prefix(head) else {
+        return false;
+    };
+    is_like(
+        tail,
+        rest.trim_start_matches(|c| c == '-' || c.is_ascii_digit()),
+    )
+}
+
+/// The lines of a report, without the first.
+fn behind_bounds(report: &str) -> &str {
+    match report.split_once('\n') {
+        Some((_bounds, rest)) => rest,
+        None => "",
+    }
+}
+
+/// A search of `t.c`: its source, its words, the lines behind the bounds, and its status.
+type Row = (&'static str, &'static str, &'static str, u8);
+
+/// Runs a row, and compares what it writes.
+fn check(rt: &(impl Abort + AllocGlobal), row: Row) -> Result<(), Fail> {
+    let (source, line, lines, status) = row;
+    let alloc = rt.alloc();
+    let mut files = MemFiles::new(alloc);
+    files.put("t.c", source.as_bytes())?;
+    let mut out = MemSink::new(alloc);
+    let mut err = MemSink::new(alloc);
+    let mut words = Vec::new(alloc);
+    for word in line.split_whitespace() {
+        words.push(String::from_str(alloc, word)?)?;
+    }
+    let ended = concolic(alloc, &words, &mut files, &mut out, &mut err).0;
+    let report = str::from_utf8(out.bytes())?;
+    let told = behind_bounds(report);
+    assert!(rt; is_like(lines, told), "the output of {line}: {told}");
+    assert_eq!(rt; err.bytes(), b"".as_slice(), "the error of {line}");
+    assert_eq!(rt; ended, status, "the status of {line}");
+    Ok(())
+}
+
+const EMPTY: &str = "int f(void) { return 0; }";
+
+const PLUS: &str = "int f(int x) { return x + 1; }";
+
+const MINUS: &str = "int f(int x) { return x - 1; }";
+
+/// A list cell, a helper, a link that may lead back to its own cell.
+const REALISTIC: &str = "#include <stdlib.h>
+typedef struct cell { int v; struct cell *next; } cell;
+int f(int v) { return 2 * v + 1; }
+int testme(cell *p, int x) {
+  if (x > 0)
+    if (p != NULL)
+      if (f(x) == p->v)
+        if (p->next == p) abort();
+  return 0; /* no fault */
+}
+";
+
+const LIST: &str = "struct cell { int v; struct cell *next; };
+int f(struct cell *p) {
+  while (p) p = p->next;
+  return 0;
+}
+";
+
+const TWO_CELLS: &str = "struct cell { int v; struct cell *next; };
+int f(struct cell *p, struct cell *q) {
+  p->v = 1;
+  q->v = 2;
+  assert(p->v == 1);
+  return 0;
+}
+";
+
+const SQUARE: &str = "int f(int x) { if (x*x == 49) abort(); return 0; }";
+
+const STRAY: &str = "int f(int x) { int z; z = x*x; if (z == 0) if (x == 5) return 1; return 0; }";
+
+const THREE: &str = "int f(int x) { if (x == 3) return 1; return 0; }";
+
+const CALLS_ITSELF: &str = "int f(int x) { return f(x); }";
+
+const COINS: &str =
+    "int f(int a, int b, int c) { if (6*a + 10*b + 15*c == 31) return 1; return 0; }";
+
+const TAKES: &str = "int f(void) { int x; CREST_int(x); if (x > 10) return 1; return 0; }";
+
+const INDEXED: &str = "int f(int x) { int t[2]; t[x] = 1; return 0; }";
+
+#[test]
+fn complete_reports(rt: HostRuntime) -> Result<(), Fail> {
+    let rows: [Row; 13] = [
+        (
+            EMPTY,
+            "run t.c f 10 -dfs 1",
+            "test ~ return ~\ncomplete paths=1 runs=1\n",
+            0,
+        ),
+        (
+            EMPTY,
+            "run t.c f 10 -dfs 1 -steps 2",
+            "test ~ return ~\ncomplete paths=1 runs=1\n",
+            0,
+        ),
+        (
+            PLUS,
+            "run t.c f 10 -dfs 1",
+            "test + overflow@1 2147483647\ntest . return 0\ncomplete paths=2 runs=2\n",
+            1,
+        ),
+        (
+            MINUS,
+            "run t.c f 10 -dfs 1",
+            "test - overflow@1 -2147483648\ntest . return 0\ncomplete paths=2 runs=2\n",
+            1,
+        ),
+        (
+            REALISTIC,
+            "run t.c testme 100 -dfs 10",
+            "test F return 0,0
+test TF return 0,?
+test TT+ overflow@3 3,?,0,0
+test TT..aF return 3,?,0,0
+test TT..aTaF return 3,?,?,0
+test TT..aTaT abort@8 3,?,?,3
+complete paths=6 runs=6
+",
+            1,
+        ),
+        (
+            TWO_CELLS,
+            "run t.c f 100 -dfs 10",
+            "test ! null@3 0,0
+test a! null@4 3,0,0,0
+test aaaF assert@5 3,3,0,0
+test abaT return 3,5,0,0,0,0
+complete paths=4 runs=4
+",
+            1,
+        ),
+        (
+            LIST,
+            "run t.c f 100 -dfs 3",
+            "test F return 0\ntest TaF return 2,0,0\ntest TaT cut 2,0,4,0,0\ncomplete paths=3 runs=3\n",
+            0,
+        ),
+        (
+            LIST,
+            "run t.c f 100 -dfs 4 -objects 1",
+            "test F return 0
+test TaF return 2,0,0
+test TaTa cut 2,0,2
+test TaTb objects 2,0,4,0,0
+complete paths=4 runs=4
+",
+            0,
+        ),
+        (
+            THREE,
+            "run t.c f 100 -dfs 5 -min 3 -max 3",
+            "test T return 3\ncomplete paths=1 runs=1\n",
+            0,
+        ),
+        (
+            THREE,
+            "run t.c f 10 -dfs 5 -steps 4",
+            "test F return 0\ntest T return 3\ncomplete paths=2 runs=2\n",
+            0,
+        ),
+        (
+            COINS,
+            "run t.c f 100 -dfs 9 -min 0 -max 5",
+            "test .....F return 0,0,0\ntest .....T return 1,1,1\ncomplete paths=2 runs=2\n",
+            0,
+        ),
+        (
+            REALISTIC,
+            "run t.c testme 100 -dfs 10 -after TT+",
+            "past F return 0,0
+past TF return 0,?
+past TT+ overflow@3 3,?,0,0
+test TT..aF return 3,?,0,0
+test TT..aTaF return 3,?,?,0
+test TT..aTaT abort@8 3,?,?,3
+complete paths=3 runs=6
+",
+            1,
+        ),
+        (
+            TAKES,
+            "run t.c f 100 -dfs 5",
+            "test F return ~\ntest T return ~/?\ncomplete paths=2 runs=2\n",
+            0,
+        ),
+    ];
+    for row in rows {
+        check(&rt, row)?;
+    }
+    Ok(())
+}
+
+#[test]
+fn incomplete_reports(rt: HostRuntime) -> Result<(), Fail> {
+    let rows: [Row; 9] = [
+        (
+            EMPTY,
+            "run t.c f 10 -dfs 1 -steps 1",
+            "test ~ steps ~\nincomplete terms=0 spent=0 steps=1 strays=0 unrun=0\n",
+            10,
+        ),
+        (
+            TWO_CELLS,
+            "run t.c f 3 -dfs 10",
+            "test ! null@3 0,0
+test a! null@4 3,0,0,0
+test aaaF assert@5 3,3,0,0
+unrun 3,5,0,0,0,0 after ab
+incomplete terms=0 spent=0 steps=0 strays=0 unrun=1
+",
+            11,
+        ),
+        (
+            SQUARE,
+            "run t.c f 100 -dfs 5",
+            "test .F return 0\nterm 1:21 product\nincomplete terms=1 spent=0 steps=0 strays=0 unrun=0\n",
+            10,
+        ),
+        (
+            STRAY,
+            "run t.c f 100 -dfs 5",
+            "test .TF return 0
+stray .F return 5 after .TT
+term 1:28 product
+incomplete terms=1 spent=0 steps=0 strays=1 unrun=0
+",
+            10,
+        ),
+        (
+            CALLS_ITSELF,
+            "run t.c f 10 -dfs 5 -steps 1000",
+            "test ~ steps 0\nincomplete terms=0 spent=0 steps=1 strays=0 unrun=0\n",
+            10,
+        ),
+        (
+            THREE,
+            "run t.c f 10 -dfs 5 -steps 3",
+            "test F steps 0\ntest T steps 3\nincomplete terms=0 spent=0 steps=2 strays=0 unrun=0\n",
+            10,
+        ),
+        (
+            COINS,
+            "run t.c f 100 -dfs 9 -min 0 -max 5 -solver 1",
+            "spent +
+spent -
+spent .+
+spent .-
+spent ..+
+spent ..-
+spent ...+
+spent ...-
+spent ....+
+spent ....-
+test .....F return 0,0,0
+spent .....T
+incomplete terms=0 spent=11 steps=0 strays=0 unrun=0
+",
+            10,
+        ),
+        (
+            COINS,
+            "run t.c f 100 -dfs 9",
+            "test + overflow@1 ?,?,?
+test - overflow@1 ?,?,?
+test .+ overflow@1 ?,?,?
+test .- overflow@1 ?,?,?
+test ..+ overflow@1 ?,?,?
+test ..- overflow@1 ?,?,?
+test ...+ overflow@1 ?,?,?
+test ...- overflow@1 ?,?,?
+test ....+ overflow@1 ?,?,?
+test ....- overflow@1 ?,?,?
+test .....F return 0,0,0
+spent .....T
+incomplete terms=0 spent=1 steps=0 strays=0 unrun=0
+",
+            11,
+        ),
+        (
+            INDEXED,
+            "run t.c f 100 -dfs 5",
+            "test . return 0\nterm 1:27 index\nincomplete terms=1 spent=0 steps=0 strays=0 unrun=0\n",
+            10,
+        ),
+    ];
+    for row in rows {
+        check(&rt, row)?;
+    }
+    Ok(())
+}
+
+#[test]
+fn a_made_program(rt: HostRuntime) -> Result<(), Fail> {
+    let alloc = rt.alloc();
+    let mut words = Vec::new(alloc);
+    words.push(String::from_str(alloc, "make")?)?;
+    words.push(String::from_str(alloc, "200")?)?;
+    let mut files = MemFiles::new(alloc);
+    let mut out = MemSink::new(alloc);
+    let mut err = MemSink::new(alloc);
+    let status = concolic(alloc, &words, &mut files, &mut out, &mut err);
+    assert_eq!(rt; out.bytes(), b"complete paths=201 runs=201\n".as_slice());
+    assert_eq!(rt; err.bytes(), b"".as_slice());
+    assert_eq!(rt; status.0, 0);
+    Ok(())
+}
