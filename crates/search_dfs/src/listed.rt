@@ -1,6 +1,6 @@
 //! The lines of a search.
 
-ghost use Rattle.std.specs.Prelude.{◌≡◌, [], ◌∷◌, OnOk, OnErr, IfErr, All};
+ghost use Rattle.std.specs.Prelude.{◌≡◌, ◌≤◌, [], ◌∷◌, OnOk, OnErr, IfErr, All};
 ghost use Rattle.cc_base.specs.Outcomes.{HasByte};
 ghost use Rattle.cc_model.specs.Listing.{test_item, past_item, stray_item, spent_item, unrun_item};
 ghost use Rattle.search_dfs.specs.Output.{out as told, Wrote, WroteSome};
@@ -28,6 +28,7 @@ fn list_test<K: Sink>(
     ensures ok { OnOk result (Wrote (setting_of task.now) (test_item (test_at run.now) ∷ []) (told (K.written sink.old) (K.faults sink.old) tally.old) (told (K.written sink.new) (K.faults sink.new) tally.new)) }
     ensures err { OnErr result (WroteSome (setting_of task.now) (test_item (test_at run.now) ∷ []) (told (K.written sink.old) (K.faults sink.old) tally.old) (told (K.written sink.new) (K.faults sink.new) tally.new)) }
     ensures sink { IfErr result (λ e. SinkCause (K.faults sink.old) (K.faults sink.new) e) }
+    ensures never_falls { K.faults sink.old ≤ K.faults sink.new }
 {
     let line = test_line(task.alloc, run)?;
     tally.count_test(task, run)?;
@@ -45,6 +46,7 @@ fn list_past<K: Sink>(
     ensures ok { OnOk result (Wrote (setting_of task.now) (past_item (test_at run.now) ∷ []) (told (K.written sink.old) (K.faults sink.old) tally.old) (told (K.written sink.new) (K.faults sink.new) tally.new)) }
     ensures err { OnErr result (WroteSome (setting_of task.now) (past_item (test_at run.now) ∷ []) (told (K.written sink.old) (K.faults sink.old) tally.old) (told (K.written sink.new) (K.faults sink.new) tally.new)) }
     ensures sink { IfErr result (λ e. SinkCause (K.faults sink.old) (K.faults sink.new) e) }
+    ensures never_falls { K.faults sink.old ≤ K.faults sink.new }
 {
     let line = past_line(task.alloc, run)?;
     tally.count_past(task, run)?;
@@ -62,6 +64,7 @@ pub(crate) fn list_run<K: Sink>(
     ensures ok { OnOk result (Ended (setting_of task.now) (after_of task.now) (test_at run.now) (told (K.written sink.old) (K.faults sink.old) tally.old) (told (K.written sink.new) (K.faults sink.new) tally.new)) }
     ensures err { OnErr result (EndedSome (setting_of task.now) (after_of task.now) (test_at run.now) (told (K.written sink.old) (K.faults sink.old) tally.old) (told (K.written sink.new) (K.faults sink.new) tally.new)) }
     ensures sink { IfErr result (λ e. SinkCause (K.faults sink.old) (K.faults sink.new) e) }
+    ensures never_falls { K.faults sink.old ≤ K.faults sink.new }
 {
     if is_above(task.after, run.path.as_slice()) {
         list_test(task, run, sink, tally)?;
@@ -84,6 +87,7 @@ pub(crate) fn list_stray<K: Sink>(
     ensures ok { OnOk result (Wrote (setting_of task.now) (stray_item (test_at run.now) prefix.now ∷ []) (told (K.written sink.old) (K.faults sink.old) tally.old) (told (K.written sink.new) (K.faults sink.new) tally.new)) }
     ensures err { OnErr result (WroteSome (setting_of task.now) (stray_item (test_at run.now) prefix.now ∷ []) (told (K.written sink.old) (K.faults sink.old) tally.old) (told (K.written sink.new) (K.faults sink.new) tally.new)) }
     ensures sink { IfErr result (λ e. SinkCause (K.faults sink.old) (K.faults sink.new) e) }
+    ensures never_falls { K.faults sink.old ≤ K.faults sink.new }
 {
     let line = stray_line(task.alloc, run, prefix)?;
     tally.count_stray(task, run)?;
@@ -101,6 +105,7 @@ pub(crate) fn list_spent<K: Sink>(
     ensures ok { OnOk result (Wrote (setting_of task.now) (spent_item prefix.now ∷ []) (told (K.written sink.old) (K.faults sink.old) tally.old) (told (K.written sink.new) (K.faults sink.new) tally.new)) }
     ensures err { OnErr result (WroteSome (setting_of task.now) (spent_item prefix.now ∷ []) (told (K.written sink.old) (K.faults sink.old) tally.old) (told (K.written sink.new) (K.faults sink.new) tally.new)) }
     ensures sink { IfErr result (λ e. SinkCause (K.faults sink.old) (K.faults sink.new) e) }
+    ensures never_falls { K.faults sink.old ≤ K.faults sink.new }
 {
     let line = spent_line(task.alloc, prefix)?;
     tally.count_spent()?;
@@ -119,6 +124,7 @@ pub(crate) fn list_unrun<K: Sink>(
     ensures ok { OnOk result (Wrote (setting_of task.now) (unrun_item input.now prefix.now ∷ []) (told (K.written sink.old) (K.faults sink.old) tally.old) (told (K.written sink.new) (K.faults sink.new) tally.new)) }
     ensures err { OnErr result (WroteSome (setting_of task.now) (unrun_item input.now prefix.now ∷ []) (told (K.written sink.old) (K.faults sink.old) tally.old) (told (K.written sink.new) (K.faults sink.new) tally.new)) }
     ensures sink { IfErr result (λ e. SinkCause (K.faults sink.old) (K.faults sink.new) e) }
+    ensures never_falls { K.faults sink.old ≤ K.faults sink.new }
 {
     let line = unrun_line(task.alloc, input, prefix)?;
     tally.count_unrun()?;

@@ -51,6 +51,7 @@ impl Open {
         ensures ok { OnOk result ((limit : ℕ) → Went (setting_of task.now) (after_of task.now) limit self.old self.new (told (K.written sink.old) (K.faults sink.old) tally.old) (told (K.written sink.new) (K.faults sink.new) tally.new)) }
         ensures err { OnErr result ((limit : ℕ) → WentSome (setting_of task.now) (after_of task.now) limit self.old (told (K.written sink.old) (K.faults sink.old) tally.old) (told (K.written sink.new) (K.faults sink.new) tally.new)) }
         ensures sink { IfErr result (λ e. SinkCause (K.faults sink.old) (K.faults sink.new) e) }
+        ensures never_falls { K.faults sink.old ≤ K.faults sink.new }
     {
         let run = last_run(&self.runs);
         if self.depth as usize == run.path.len() {
@@ -82,6 +83,7 @@ impl Open {
         ensures err { OnErr result ((os : List PlainOutcome) (ls : List (List PlainOutcome)) (r : Kept) (rs : List Kept) → Solving (setting_of task.now) (after_of task.now) self.old outcome prefix.now os ls r rs → Turned_to (setting_of task.now) (r.trace).input prefix.now input.now →
             TurnSome (setting_of task.now) (after_of task.now) task.now.limit ((outcome ∷ os) ∷ ls) (r ∷ rs) self.old (told (K.written sink.old) (K.faults sink.old) tally.old) (told (K.written sink.new) (K.faults sink.new) tally.new)) }
         ensures sink { IfErr result (λ e. SinkCause (K.faults sink.old) (K.faults sink.new) e) }
+        ensures never_falls { K.faults sink.old ≤ K.faults sink.new }
     {
         if self.made == task.limit {
             list_unrun(task, input, prefix, sink, tally)?;
@@ -114,6 +116,7 @@ impl Open {
         ensures err { OnErr result ((os : List PlainOutcome) (ls : List (List PlainOutcome)) (r : Kept) (rs : List Kept) → Solving (setting_of task.now) (after_of task.now) self.old outcome prefix.now os ls r rs →
             TurnSome (setting_of task.now) (after_of task.now) task.now.limit ((outcome ∷ os) ∷ ls) (r ∷ rs) self.old (told (K.written sink.old) (K.faults sink.old) tally.old) (told (K.written sink.new) (K.faults sink.new) tally.new)) }
         ensures sink { IfErr result (λ e. SinkCause (K.faults sink.old) (K.faults sink.new) e) }
+        ensures never_falls { K.faults sink.old ≤ K.faults sink.new }
     {
         a_run_is_lawful();
         let run = last_run(&self.runs);
@@ -148,6 +151,7 @@ impl Open {
         ensures err { OnErr result ((os : List PlainOutcome) (ls : List (List PlainOutcome)) (r : Kept) (rs : List Kept) → Taken (setting_of task.now) self.old outcome os ls r rs →
             TurnSome (setting_of task.now) (after_of task.now) task.now.limit ((outcome ∷ os) ∷ ls) (r ∷ rs) self.old (told (K.written sink.old) (K.faults sink.old) tally.old) (told (K.written sink.new) (K.faults sink.new) tally.new)) }
         ensures sink { IfErr result (λ e. SinkCause (K.faults sink.old) (K.faults sink.new) e) }
+        ensures never_falls { K.faults sink.old ≤ K.faults sink.new }
     {
         let run = last_run(&self.runs);
         if same(outcome, own_outcome(run, self.depth - 1)) {
@@ -178,6 +182,7 @@ impl Open {
         ensures room { OnOk result (self.new.made ≤ task.now.limit) }
         ensures err { OnErr result (TurnSome (setting_of task.now) (after_of task.now) task.now.limit (levels_of self.old) (runs_of self.old) self.old (told (K.written sink.old) (K.faults sink.old) tally.old) (told (K.written sink.new) (K.faults sink.new) tally.new)) }
         ensures sink { IfErr result (λ e. SinkCause (K.faults sink.old) (K.faults sink.new) e) }
+        ensures never_falls { K.faults sink.old ≤ K.faults sink.new }
     {
         match self.tree.next_open() {
             None => {

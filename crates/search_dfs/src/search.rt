@@ -11,8 +11,9 @@ ghost use Rattle.tac_lower.specs.Finished.{first_in};
 ghost use Rattle.tac_lower.specs.Seen.{seen};
 ghost use Rattle.search_dfs.specs.declared.open.Pending.{Pending as Kept};
 ghost use Rattle.search_dfs.specs.Explored.{Explored, ExploredSome, Counted};
+ghost use Rattle.search_dfs.specs.Laws.{Laws};
 ghost use Rattle.search_dfs.specs.Output.{seen_term, out as told};
-ghost use Rattle.search_dfs.specs.Setting.{setting, within_of, base_of};
+ghost use Rattle.search_dfs.specs.Setting.{setting, layer_of, within_of, base_of};
 ghost use Rattle.search_dfs.specs.Task.{setting_of, after_of, Known};
 ghost use Rattle.search_dfs.specs.Turns.{Begins, SinkCause};
 ghost use Rattle.search_dfs.specs.Whole.{Listed_whole, Listed_part};
@@ -70,12 +71,13 @@ fn begin(task: &Task<'_>, base: &Input) -> Result<Open, NoMemory>
 /// Searches from the base input on, and writes the keyed lines.
 fn search_all<K: Sink>(task: &Task<'_>, sink: &mut K, tally: &mut Tally) -> Result<(), SearchFault>
     requires known { Known task.now }
+    requires laws { Laws (layer_of (setting_of task.now)) }
     requires runs { 1 ≤ task.now.limit }
     ensures ok { OnOk result (Listed_whole (setting_of task.now) (after_of task.now) task.now.limit (told (K.written sink.old) (K.faults sink.old) tally.old) (told (K.written sink.new) (K.faults sink.new) tally.new)) }
     ensures err { OnErr result (Listed_part (setting_of task.now) (after_of task.now) task.now.limit (told (K.written sink.old) (K.faults sink.old) tally.old) (told (K.written sink.new) (K.faults sink.new) tally.new)) }
     ensures sink { IfErr result (λ e. SinkCause (K.faults sink.old) (K.faults sink.new) e) }
+    ensures never_falls { K.faults sink.old ≤ K.faults sink.new }
 {
-    laws_hold(task);
     let base = base_input(task.alloc, task.checked, task.bounds)?;
     let mut open = begin(task, &base)?;
     open.go_down(task, sink, tally)?;
@@ -144,8 +146,10 @@ pub fn explore<K: Sink>(
     requires points { PointsToCells (core_of checked.now).layouts (params_of (core_of checked.now)) }
     requires runs { 1 ≤ runs }
     ensures explored { IfOk result (λ s. Explored (setting checked.now bounds.now budget) (option_map (λ r. r.now) after.entry) runs (K.written out.old) (K.written out.new) s) }
+    ensures laws { IfOk result (λ s. Laws (layer_of (setting checked.now bounds.now budget))) }
     ensures some { OnErr result (ExploredSome (setting checked.now bounds.now budget) (option_map (λ r. r.now) after.entry) (K.written out.old) (K.written out.new)) }
     ensures sink { IfErr result (λ e. SinkCause (K.faults out.old) (K.faults out.new) e) }
+    ensures never_falls { K.faults out.old ≤ K.faults out.new }
 {
     let task = Task {
         alloc,
@@ -156,6 +160,7 @@ pub fn explore<K: Sink>(
         budget,
         after,
     };
+    laws_hold(&task);
     let mut tally = Tally::new(alloc);
     search_all(&task, out, &mut tally)?;
     write_terms(alloc, tally.terms.as_slice(), out)?;

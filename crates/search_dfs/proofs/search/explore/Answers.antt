@@ -7,6 +7,9 @@ use Rattle.search_dfs.proofs.Down.{on_err}
 use Rattle.search_dfs.proofs.Ending.{explored, explored_part, listed_part, sink_later}
 use Rattle.search_dfs.proofs.search.explore.Goals as goal
 
+pub laws_hold-requires : goal.laws_hold-requires
+laws_hold-requires g c = record { compiles = c.requires.compiles; points = c.requires.points }
+
 pub search_all-requires-clause-known : goal.search_all-requires-clause-known
 search_all-requires-clause-known g c = record { compiles = c.requires.compiles; points = c.requires.points }
 
