@@ -1,10 +1,10 @@
 -- How many runs there are, which searches are complete, and lists that enumerate the same inputs.
-use Rattle.std.proofs.Common.{◌≡◌, ◌≢◌, ℕ, zero, suc, ◌+◌, ◌<◌, ◌≤◌, ◌↔◌, inl, inr, List, [], ◌∷◌, ◌++◌, length, Option, Some, None, refl, sym, ap, ap₂, ◌∙◌, subst, arith, nat_eq, if◌then◌else◌}
+use Rattle.std.proofs.Common.{◌≡◌, ◌≢◌, ℕ, zero, suc, ◌+◌, ◌<◌, ◌≤◌, ◌↔◌, inl, inr, List, [], ◌∷◌, ◌++◌, length, map, Option, Some, None, refl, sym, ap, ap₂, ◌∙◌, subst, arith, nat_eq, if◌then◌else◌}
 use Rattle.std.proofs.lemmas.Bool.Decides.{eqb_tells}
 use Rattle.cc_base.specs.declared.outcomes.Outcome.{Outcome}
 use Rattle.cc_base.specs.Outcomes.{byte_of}
 use Rattle.cc_base.specs.Paths.{Path, In, Pairwise, Before, next, BeginsWith, in_common}
-use Rattle.cc_model.specs.Tested.{Layer, spent, Offers, Term}
+use Rattle.cc_model.specs.Tested.{Tested, Layer, spent, Offers, Term}
 use Rattle.search_dfs.specs.Laws.{Laws}
 use Rattle.cc_model.specs.Listing.{Item, test_item, past_item, stray_item, spent_item, unrun_item, key, Listing, count_by, is_stray, is_spent, is_unrun, is_at_steps, at_steps, tests, Listed, Enumerates, Sound, Licensed, Covered, is_run, IsComplete, Counts}
 use Rattle.cc_base.specs.declared.inputs.Input.{Input}
@@ -96,30 +96,35 @@ same_members (x ∷ l) (z ∷ m) h k f g =
     right w i e (inr j) = j
     right w i e (inl f) = absurd (before_irr w (subst (λ v. Before v w) (sym e ∙ sym f) (k.0 w i)))
 
-module _ (y : Layer) (laws : Laws y) where
-  abbrev pub paths : List Test → List Path
-  paths [] = []
-  paths (t ∷ l) = t.path ∷ paths l
+abbrev pub paths : List Test → List Path
+paths [] = []
+paths (t ∷ l) = t.path ∷ paths l
 
-  path_in : (t : Test) (l : List Test) → In t l → In t.path (paths l)
-  path_in t [] i = absurd i
-  path_in t (u ∷ l) (inl e) = inl (ap (λ (v : Test). v.path) e)
-  path_in t (u ∷ l) (inr i) = inr (path_in t l i)
+path_in : (t : Test) (l : List Test) → In t l → In t.path (paths l)
+path_in t [] i = absurd i
+path_in t (u ∷ l) (inl e) = inl (ap (λ (v : Test). v.path) e)
+path_in t (u ∷ l) (inr i) = inr (path_in t l i)
 
-  in_paths : (p : Path) (l : List Test) → In p (paths l) → (t : Test) × In t l × (p ≡ t.path)
-  in_paths p [] i = absurd i
-  in_paths p (u ∷ l) (inl e) = (u, inl refl, e)
-  in_paths p (u ∷ l) (inr i) = let r = in_paths p l i in (r.0, inr r.1, r.2)
+in_paths : (p : Path) (l : List Test) → In p (paths l) → (t : Test) × In t l × (p ≡ t.path)
+in_paths p [] i = absurd i
+in_paths p (u ∷ l) (inl e) = (u, inl refl, e)
+in_paths p (u ∷ l) (inr i) = let r = in_paths p l i in (r.0, inr r.1, r.2)
 
-  paths_ascend : (l : List Test) → Pairwise (λ t u. Before t.path u.path) l → Pairwise Before (paths l)
-  paths_ascend [] h = tt
-  paths_ascend (t ∷ l) h = (λ p i. let r = in_paths p l i in subst (λ w. Before t.path w) (sym r.2) (h.0 r.0 r.1), paths_ascend l h.1)
+paths_ascend : (l : List Test) → Pairwise (λ t u. Before t.path u.path) l → Pairwise Before (paths l)
+paths_ascend [] h = tt
+paths_ascend (t ∷ l) h = (λ p i. let r = in_paths p l i in subst (λ w. Before t.path w) (sym r.2) (h.0 r.0 r.1), paths_ascend l h.1)
 
+-- a list of tests has the paths of its tests
+pub paths_map : (l : List Test) → map (λ (t : Test). t.path) l ≡ paths l
+paths_map [] = refl
+paths_map (t ∷ l) = ap (λ r. t.path ∷ r) (paths_map l)
+
+module _ (y : Tested) where
   -- two lists that enumerate the same inputs have the same paths
-  pub same_paths : (after : Option Path) (l m : List Test) → Enumerates after (y.runs) l → Enumerates after (y.runs) m → paths l ≡ paths m
+  pub same_paths : (after : Option Path) (l m : List Test) → Enumerates after y l → Enumerates after y m → paths l ≡ paths m
   same_paths after l m h k = same_members (paths l) (paths m) (paths_ascend l h.ascending) (paths_ascend m k.ascending) (goes l m h k) (goes m l k h)
     where
-      goes : (l m : List Test) → Enumerates after (y.runs) l → Enumerates after (y.runs) m → (p : Path) → In p (paths l) → In p (paths m)
+      goes : (l m : List Test) → Enumerates after y l → Enumerates after y m → (p : Path) → In p (paths l) → In p (paths m)
       goes l m h k p i =
           let r = in_paths p l i in
           let real = h.real r.0 r.1 in
@@ -127,8 +132,8 @@ module _ (y : Layer) (laws : Laws y) where
           subst (λ w. In w (paths m)) (f.2 ∙ sym real.path ∙ sym r.2) (path_in f.0 m f.1)
 
   -- where a list enumerates all inputs, its tests above a path enumerate those above it
-  pub those_above : (a : Path) (l m : List Test) → Enumerates None (y.runs) l → Pairwise (λ t u. Before t.path u.path) m →
-      ((t : Test) → In t m ↔ In t l × Before a t.path) → Enumerates (Some a) (y.runs) m
+  pub those_above : (a : Path) (l m : List Test) → Enumerates None y l → Pairwise (λ t u. Before t.path u.path) m →
+      ((t : Test) → In t m ↔ In t l × Before a t.path) → Enumerates (Some a) y m
   those_above a l m h k f = record {
     ascending = k;
     above = λ t i b e. let g : a ≡ b = cc e in subst (λ w. Before w t.path) g ((f t).0 i).1;
@@ -136,6 +141,7 @@ module _ (y : Layer) (laws : Laws y) where
     all = λ i w ab. let r = h.all i w (λ b e. absurd (cc e)) in (r.0, (f r.0).1 (r.1, subst (λ w. Before a w) (sym r.2) (ab a refl)), r.2);
   }
 
+module _ (y : Layer) (laws : Laws y) where
   -- ---- runs and paths
 
   abbrev pub pasts : List Item → List Test
