@@ -1,5 +1,5 @@
 -- The outcomes of an event, and what a new run tells.
-use Rattle.std.proofs.Common.{◌≡◌, ◌≢◌, ℕ, zero, suc, ◌-◌, ◌<◌, ◌≤◌, ◌⊎◌, ◌↔◌, inl, inr, List, [], ◌∷◌, ◌++◌, length, map, take, Option, Some, None, MatchOption, All, slice_get, slice_index_or, refl, sym, ap, ap₂, ◌∙◌, subst, arith, get_or, insert}
+use Rattle.std.proofs.Common.{◌≡◌, ◌≢◌, ℕ, zero, suc, ◌-◌, ◌^◌, ◌<◌, ◌≤◌, ◌⊎◌, ◌↔◌, inl, inr, List, [], ◌∷◌, ◌++◌, length, map, take, Option, Some, None, MatchOption, All, slice_get, slice_index_or, refl, sym, ap, ap₂, ◌∙◌, subst, arith, get_or, insert}
 use Rattle.cc_base.specs.declared.inputs.Input.{Input}
 use Rattle.cc_base.specs.declared.outcomes.Outcome.{Outcome}
 use Rattle.cc_base.specs.declared.outcomes.Outcome.TheVariants.{Zero}
@@ -100,9 +100,9 @@ module _ (s : Setting) where
 
   module _ (i : Input) (t : Trace) (p : Path) (it : IsTrace s.checked s.limits i t) (path : p ≡ path_at (core_of s.checked) s.limits i) (e : p ≡ map outcome_at t.events) (end : t.end ≡ end_at (core_of s.checked) s.limits i)
       (few : (k : ℕ) (x : Event) → slice_get t.events k ≡ Some x → OffersFew x) (bytes : All HasByte (map outcome_at t.events)) where
-    pub made_trace : within_of s i → length t.events ≤ s.limits.depth → InRange s.limits → TraceOf s t p
+    pub made_trace : within_of s i → length i.cells < 10 ^ 18 → length t.events ≤ s.limits.depth → InRange s.limits → TraceOf s t p
     unfolding layer_of
-    made_trace w short range =
+    made_trace w cells short range =
         let told : Tells s.checked s.limits t.input t = subst (λ h. Tells s.checked s.limits h t) (sym it.input) (tells s.checked s.limits i t it (sym e ∙ path) end few bytes) in
         record {
           within = subst (within_of s) (sym it.input) w;
@@ -113,6 +113,7 @@ module _ (s : Setting) where
           short = let n = map_long outcome_at t.events in let m : length p ≡ length (map outcome_at t.events) = ap length e in omega (arith, n, m, short);
           few = range.depth_high;
           bytes = subst (All HasByte) (sym e) told.bytes;
+          few_cells = subst (λ (h : Input). length h.cells < 10 ^ 18) (sym it.input) cells;
         }
 
 -- ---- the last run

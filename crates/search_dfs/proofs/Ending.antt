@@ -92,6 +92,7 @@ module _ (p : Setting) (after : Option Path) (limit : ℕ) (t0 t1 : Tally) (old 
         sound = l.sound;
         licensed = l.licensed p.limits found (ordered l) (all_terms l);
         covered = l.covered;
+        few = (l.wrote).few;
         sums = record {
           paths = from_none s.paths t0.paths t1.paths _ c.paths k.paths (ap (λ (t : Tally). t.paths) zero);
           runs = from_none s.runs t0.runs t1.runs _ c.runs k.runs (ap (λ (t : Tally). t.runs) zero);

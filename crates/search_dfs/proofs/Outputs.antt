@@ -81,6 +81,7 @@ module _ (p : Setting) where
       terms = λ x. ((λ i. inl i), (λ i. elim i [ inl j ↦ j | inr j ↦ absurd (no_run j.0 j.1) ]));
       order = λ h. h;
     };
+    few = λ x i. absurd i;
   })
 
   pub some_none : (old now : Out) → now ≡ old → WroteSome p [] old now
@@ -129,6 +130,7 @@ module _ (p : Setting) where
       terms = λ x. both_terms _ _ _ e f x (a.terms x) (b.terms x);
       order = λ o. b.order (a.order o);
     };
+    few = λ x i. elim (in_either x e f i) [ inl j ↦ h.few x j | inr j ↦ k.few x j ];
   }
 
   pub some_more : (e f : Items) (was mid now : Out) → Wrote p e was mid → WroteSome p f mid now → WroteSome p (e ++ f) was now

@@ -42,4 +42,4 @@ module _ (p : Setting) (after : Option Path) (b : Open) (o : Outcome) (w : Path)
   pub is_turned : (i : Input) → v ≡ turn.Turned i → Turned_to p (r.trace).input w i
   is_turned i k =
       let t = subst (Answered p (r.trace).input (next (take (length ls) (path_of_run r)) o)) k at_prefix in
-      (subst (λ z. (layer_of p).Answers (r.trace).input z turned) (sym S.prefix) t.0, t.1, subst (λ z. meets_of p (r.trace).input z i) (sym S.prefix) t.2)
+      (subst (λ z. (layer_of p).Answers (r.trace).input z turned) (sym S.prefix) t.0, t.1, subst (λ z. meets_of p (r.trace).input z i) (sym S.prefix) t.2, (subst (IsTurnedIf (core_of p.checked) p.limits (x.trace).input (b.depth - 1) o) k g).few)

@@ -1,12 +1,13 @@
 -- What a search as a whole owes.
 use Rattle.std.specs.Prelude.{◌≡◌, ℕ, List, ◌++◌, length, Option}
-use Rattle.cc_base.specs.Paths.{Path}
+use Rattle.cc_base.specs.Paths.{Path, In}
 use Rattle.cc_model.specs.Tested.{Term}
 use Rattle.cc_model.specs.Listing.{Item, Listing, Counts, counts_of, path_count, run_count, Sound, Licensed, Covered}
 use Rattle.cc_model.specs.Report.{item_lines, term_lines, has_fault}
 use Rattle.cc_outside.specs.Told.{appended, WritesPart}
 use Rattle.search_dfs.specs.declared.search.Summary.{Summary}
 use Rattle.search_dfs.specs.declared.tally.Tally.{Tally}
+use Rattle.search_dfs.specs.Output.{HasFewCells}
 use Rattle.search_dfs.specs.Setting.{Setting, layer_of}
 
 abbrev counted : Summary → Counts
@@ -30,7 +31,8 @@ pub record Counted (t : Tally) (s : Summary) : Type 0 where
   pub unrun : s.unrun ≡ t.unrun
   pub fault : s.fault ≡ t.fault
 
--- what was written are the lines of a listing that is sound, licensed and covered, and the summary has its counts
+-- what was written are the lines of a listing that is sound, licensed and covered, of inputs that can be read again, and the
+-- summary has its counts
 pub record Explored (p : Setting) (after : Option Path) (limit : ℕ) (old new : Option (List ℕ)) (s : Summary) : Type 0 where
   pub items : List Item
   pub terms : List Term
@@ -38,6 +40,7 @@ pub record Explored (p : Setting) (after : Option Path) (limit : ℕ) (old new :
   pub sound : Sound after ((layer_of p).runs) items
   pub licensed : Licensed after (layer_of p) limit (record { bounds = p.limits; items = items; terms = terms })
   pub covered : Covered after (layer_of p) items
+  pub few : (x : Item) → In x items → HasFewCells x
   pub sums : Sums (record { bounds = p.limits; items = items; terms = terms }) s
 
 -- what was written is a first part of the lines of sound items and of terms

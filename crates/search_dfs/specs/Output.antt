@@ -1,11 +1,11 @@
 -- What a search writes and counts.
-use Rattle.std.specs.Prelude.{ℕ, ◌+◌, ◌<◌, ◌≤◌, ◌≡◌, ◌⊎◌, ◌↔◌, ◌||◌, List, map, Option}
+use Rattle.std.specs.Prelude.{ℕ, ◌+◌, ◌<◌, ◌≤◌, ◌≡◌, ◌⊎◌, ◌↔◌, ◌||◌, ◌^◌, List, map, length, Option}
 use Rattle.cc_base.specs.declared.inputs.Test.{Test}
 use Rattle.cc_base.specs.Paths.{In, Pairwise}
 use Rattle.cc_model.specs.declared.terms.TermKind.{TermKind}
 use Rattle.cc_model.specs.declared.terms.TermKind.TheVariants.{Product, Quotient, Index, Wide}
 use Rattle.cc_model.specs.Tested.{Term}
-use Rattle.cc_model.specs.Listing.{Item, WasRun, count_by, is_test, is_run, is_spent, is_at_steps, is_stray, is_unrun}
+use Rattle.cc_model.specs.Listing.{Item, test_item, past_item, stray_item, spent_item, unrun_item, WasRun, count_by, is_test, is_run, is_spent, is_at_steps, is_stray, is_unrun}
 use Rattle.cc_model.specs.Report.{item_lines, has_fault}
 use Rattle.cc_outside.specs.Told.{appended, WritesPart}
 use Rattle.search_dfs.specs.declared.tally.FoundTerm.{FoundTerm}
@@ -53,11 +53,20 @@ pub record Tallied (p : Setting) (e : Items) (old new : Tally) : Type 0 where
   pub terms : (x : Term) → In x (map seen_term (new.terms).items) ↔ (In x (map seen_term (old.terms).items) ⊎ ((t : Test) × WasRun t e × In x ((layer_of p).terms t.input)))
   pub order : InOrder (old.terms).items → InOrder (new.terms).items
 
+-- the input of the item, where it has one, has fewer than 10^18 cells, so that its map can be read again
+abbrev pub HasFewCells : Item → Type 0
+HasFewCells (test_item t) = length (t.input).cells < 10 ^ 18
+HasFewCells (past_item t) = length (t.input).cells < 10 ^ 18
+HasFewCells (stray_item t q) = length (t.input).cells < 10 ^ 18
+HasFewCells (spent_item q) = Unit {0}
+HasFewCells (unrun_item i q) = length i.cells < 10 ^ 18
+
 -- the items are lines that were written, and they were counted
 pub record Wrote (p : Setting) (e : Items) (old new : Out) : Type 0 where
   pub bytes : new.bytes ≡ appended old.bytes (item_lines e)
   pub faults : old.faults ≤ new.faults
   pub tally : Tallied p e old.tally new.tally
+  pub few : (x : Item) → In x e → HasFewCells x
 
 -- a first part of their lines was written
 abbrev pub WroteSome : Setting → Items → Out → Out → Type 0

@@ -1,5 +1,5 @@
 -- What a search has from its start, what it writes, and what it counts.
-use Rattle.std.specs.Prelude.{ℕ, zero, suc, ◌≤◌, ◌≡◌, ◌⊎◌, ◌↔◌, List, [], ◌∷◌, length, All}
+use Rattle.std.specs.Prelude.{ℕ, zero, suc, ◌^◌, ◌<◌, ◌≤◌, ◌≡◌, ◌⊎◌, ◌↔◌, List, [], ◌∷◌, length, All}
 use Rattle.cc_base.specs.declared.inputs.Input.{Input}
 use Rattle.cc_base.specs.declared.outcomes.Outcome.{Outcome}
 use Rattle.cc_base.specs.declared.outcomes.Outcome.TheVariants.{Zero}
@@ -52,6 +52,7 @@ pub record TraceOf (s : Setting) (t : Trace) (p : Path) : Type 0 where
   pub short : length p ≤ s.limits.depth
   pub few : s.limits.depth ≤ 1024
   pub bytes : All HasByte p
+  pub few_cells : length (t.input).cells < 10 ^ 18
 
 -- what a solve answers at a prefix
 abbrev pub Answered : Setting → Input → Path → answer.Turned → Type 0

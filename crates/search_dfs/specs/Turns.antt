@@ -1,5 +1,5 @@
 -- What one turn of the loop does.
-use Rattle.std.specs.Prelude.{ℕ, zero, suc, ◌+◌, ◌-◌, ◌*◌, ◌<◌, ◌≤◌, ◌≡◌, ◌≢◌, ◌⊎◌, ◌↔◌, Bool, true, false, List, [], ◌∷◌, ◌++◌, length, Option, Some, None, nat_eq, take, if◌then◌else◌, All}
+use Rattle.std.specs.Prelude.{ℕ, zero, suc, ◌+◌, ◌-◌, ◌*◌, ◌^◌, ◌<◌, ◌≤◌, ◌≡◌, ◌≢◌, ◌⊎◌, ◌↔◌, Bool, true, false, List, [], ◌∷◌, ◌++◌, length, Option, Some, None, nat_eq, take, if◌then◌else◌, All}
 use Rattle.cc_base.specs.declared.outcomes.Outcome.{Outcome}
 use Rattle.cc_base.specs.Outcomes.{HasByte}
 use Rattle.cc_base.specs.Paths.{Path, In, next}
@@ -128,7 +128,7 @@ pub record Solving (p : Setting) (after : Option Path) (b : Open) (o : Outcome) 
 
 -- the solve gave the input
 abbrev pub Turned_to : Setting → Input → Path → Input → Type 0
-Turned_to p u w i = (layer_of p).Answers u w turned × within_of p i × meets_of p u w i
+Turned_to p u w i = (layer_of p).Answers u w turned × within_of p i × meets_of p u w i × (length i.cells < 10 ^ 18)
 
 -- the run that ends has its line: a test, or a past one
 pub data Ends (after : Option Path) (t : Test) : Item → Type 0 where

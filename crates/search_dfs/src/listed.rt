@@ -120,7 +120,8 @@ pub(crate) fn list_unrun<K: Sink>(
     sink: &mut K,
     tally: &mut Tally,
 ) -> Result<(), SearchFault>
-    requires { All HasByte prefix.now }
+    requires prefix { All HasByte prefix.now }
+    requires few { length (input.now).cells < 10 ^ 18 }
     ensures ok { OnOk result (Wrote (setting_of task.now) (unrun_item input.now prefix.now ∷ []) (told (K.written sink.old) (K.faults sink.old) tally.old) (told (K.written sink.new) (K.faults sink.new) tally.new)) }
     ensures err { OnErr result (WroteSome (setting_of task.now) (unrun_item input.now prefix.now ∷ []) (told (K.written sink.old) (K.faults sink.old) tally.old) (told (K.written sink.new) (K.faults sink.new) tally.new)) }
     ensures sink { IfErr result (λ e. SinkCause (K.faults sink.old) (K.faults sink.new) e) }

@@ -1,6 +1,6 @@
 //! The runs that a search keeps.
 
-ghost use Rattle.std.specs.Prelude.{◌≡◌, ◌<◌, ◌≤◌, ◌⊎◌, ◌↔◌, ◌∷◌, List, length, map, IfOk};
+ghost use Rattle.std.specs.Prelude.{◌≡◌, ◌<◌, ◌≤◌, ◌⊎◌, ◌↔◌, ◌^◌, ◌∷◌, List, length, map, IfOk};
 ghost use Rattle.cc_base.specs.declared.outcomes.Outcome.{Outcome as PlainOutcome};
 ghost use Rattle.cc_base.specs.Outcomes.{byte_of};
 ghost use Rattle.cc_base.specs.Paths.{In, Ascend};
@@ -96,6 +96,7 @@ pub(crate) fn choices_of(task: &Task<'_>, run: &Pending, k: u32) -> Result<Items
 pub(crate) fn made_run(task: &Task<'_>, input: &Input, from: u32) -> Result<Pending, NoMemory>
     requires known { Known task.now }
     requires within { within_of (setting_of task.now) input.now }
+    requires few { length (input.now).cells < 10 ^ 18 }
     ensures trace { IfOk result (λ r. TraceOf (setting_of task.now) r.trace r.path) }
     ensures input { IfOk result (λ r. (r.trace).input ≡ input.now) }
     ensures from { IfOk result (λ r. r.from ≡ from) }

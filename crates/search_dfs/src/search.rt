@@ -1,6 +1,6 @@
 //! The depth-first search as a whole.
 
-ghost use Rattle.std.specs.Prelude.{◌≡◌, ◌≤◌, IfOk, OnOk, OnErr, IfErr, map, option_map};
+ghost use Rattle.std.specs.Prelude.{◌≡◌, ◌^◌, ◌<◌, ◌≤◌, length, IfOk, OnOk, OnErr, IfErr, map, option_map};
 ghost use Rattle.cc_model.specs.CheckedProgram.{core_of};
 ghost use Rattle.cc_model.specs.Compiles.{Compiles};
 ghost use Rattle.cc_model.specs.Graphs.{PointsToCells};
@@ -53,6 +53,7 @@ fn begin(task: &Task<'_>, base: &Input) -> Result<Open, NoMemory>
     requires known { Known task.now }
     requires within { within_of (setting_of task.now) base.now }
     requires base { base.now ≡ base_of (setting_of task.now) }
+    requires few { length (base.now).cells < 10 ^ 18 }
     ensures { IfOk result (λ b. (v : Kept) × Begins (setting_of task.now) b v) }
 {
     let first = made_run(task, base, 0)?;

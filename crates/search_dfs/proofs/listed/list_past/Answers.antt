@@ -1,5 +1,6 @@
 use Rattle.std.proofs.Common.{[], ◌∷◌, ◌∙◌}
 use Rattle.cc_model.specs.Listing.{past_item}
+use Rattle.search_dfs.specs.Task.{setting_of}
 use Rattle.search_dfs.specs.Turns.{test_at}
 use Rattle.search_dfs.proofs.Down.{on_err, ok_map}
 use Rattle.search_dfs.proofs.Lined.{line_wrote, nothing_some}
@@ -10,3 +11,6 @@ returns-in_err-line-clause-err g c = on_err _ (nothing_some (past_item (test_at 
 
 pub returns-in_err-count_past-clause-err : goal.returns-in_err-count_past-clause-err
 returns-in_err-count_past-clause-err g c = on_err _ (nothing_some (past_item (test_at (c.args.run).now) ∷ []) _)
+
+pub returns-clause-ok : goal.returns-clause-ok
+returns-clause-ok g c = ok_map _ c.write_line.ensures.ok (λ w. line_wrote (setting_of (c.args.task).now) (past_item (test_at (c.args.run).now)) c.deref.result.now (c.deref.ensures.value ∙ c.in_ok-line.ensures) _ _ _ _ _ _ c.requires.few_cells w c.write_line.ensures.never_falls c.in_ok-count_past.ensures)

@@ -5,8 +5,11 @@ use Rattle.search_dfs.proofs.Down.{on_err, ok_map, err_map}
 use Rattle.search_dfs.proofs.Following.{none_turn, unrun_turn, unrun_some, stray_turn, stray_some, gone_ready, gone_turn, gone_some}
 use Rattle.search_dfs.proofs.open.Open.follow.Goals as goal
 
-pub list_unrun-requires : goal.list_unrun-requires
-list_unrun-requires g c = (c.requires.solving.4).bytes
+pub list_unrun-requires-clause-prefix : goal.list_unrun-requires-clause-prefix
+list_unrun-requires-clause-prefix g c = (c.requires.solving.4).bytes
+
+pub list_unrun-requires-clause-few : goal.list_unrun-requires-clause-few
+list_unrun-requires-clause-few g c = (c.requires.solving.5).3
 
 pub returns-in_err-list_unrun-clause-err : goal.returns-in_err-list_unrun-clause-err
 returns-in_err-list_unrun-clause-err g c = on_err c.from_residual.result (λ os ls r rs S M. unrun_some (setting_of (c.args.task).now) (after_of (c.args.task).now) ((c.args.task).now).limit (c.args.self).now c.args.outcome (c.args.prefix).now os ls r rs S (c.args.input).now M _ _ c.if-self-task.true c.in_err-list_unrun.ensures.err)
@@ -16,6 +19,9 @@ returns-then-self-task-clause-ok g c = λ os ls r rs S M. (unrun_turn (setting_o
 
 pub made_run-requires-clause-within : goal.made_run-requires-clause-within
 made_run-requires-clause-within g c = (c.requires.solving.5).1
+
+pub made_run-requires-clause-few : goal.made_run-requires-clause-few
+made_run-requires-clause-few g c = (c.requires.solving.5).3
 
 pub returns-in_err-fresh-clause-err : goal.returns-in_err-fresh-clause-err
 returns-in_err-fresh-clause-err g c = on_err c.from_residual-in_err-fresh.result (λ os ls r rs S M. none_turn (setting_of (c.args.task).now) (after_of (c.args.task).now) ((c.args.task).now).limit (c.args.self).now c.args.outcome (c.args.prefix).now os ls r rs S _ _ refl)
