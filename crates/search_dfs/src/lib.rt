@@ -13,5 +13,4 @@ mod tally;
 mod task;
 
 pub use fault::SearchFault;
-pub use laws::a_resumed_listing_agrees;
 pub use search::{Summary, explore};
