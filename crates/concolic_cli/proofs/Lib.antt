@@ -6,7 +6,6 @@ mod OptionFits
 mod OptionReads
 mod OptionTables
 pub mod Forms
-mod OneText
 mod MapRefusals
 mod TraceLines
 mod Searches
@@ -18,3 +17,4 @@ mod Reports
 mod Commands
 mod Calls
 mod Promises
+mod Agreeing

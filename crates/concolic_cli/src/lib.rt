@@ -4,6 +4,7 @@
 mod after;
 mod answers;
 mod call;
+mod laws;
 mod lines;
 mod listing;
 mod making;
@@ -19,4 +20,5 @@ pub mod words;
 
 pub use answers::Status;
 pub use call::concolic;
+pub use laws::listings_agree;
 pub use words::read_words;

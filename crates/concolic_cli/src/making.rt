@@ -99,8 +99,8 @@ pub fn write_made<K: Sink>(alloc: Global, branches: u32, out: &mut K) -> Result<
     let Ok(line) = searched_line(alloc, &compiled, &bounds, branches + 1) else {
         return Err(Refusal::NoMemory);
     };
-    if let Err(refusal) = write_line(out, &line) {
-        return Err(refusal);
+    match write_line(out, &line) {
+        Ok(()) => Ok(Status(0)),
+        Err(refusal) => Err(refusal),
     }
-    Ok(Status(0))
 }
