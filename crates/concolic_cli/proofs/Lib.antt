@@ -17,4 +17,3 @@ mod Reports
 mod Commands
 mod Calls
 mod Promises
-mod Agreeing
