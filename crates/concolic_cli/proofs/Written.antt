@@ -98,7 +98,7 @@ module _ (c : Checked) (b : Limits) (after : Option Path) (old : Option (List �
           WroteListing c b after old new runs budget status
       all_written laws new line status e w v = record {
         listing = found;
-        lists = is_listing c b budget runs after found laws x.sound x.licensed x.covered refl;
+        lists = is_listing c b budget runs after found laws x.sound x.licensed x.covered x.few refl;
         written = w ∙ ap (λ u. appended searched u) e ∙ ap (λ m. appended m (last_line found)) before_last ∙ appended-appended old before (last_line found);
         verdict = v;
       }
@@ -108,7 +108,7 @@ pub is_last_line : (c : Checked) (b : Limits) (runs budget : ℕ) (old new : Opt
     Explored (setting c b budget) None runs old new summary → ((l : Listing) → Sums l summary → line ≡ last_line l) → IsLastLine c b runs budget line
 is_last_line c b runs budget old new summary line laws x h = record {
   listing = record { bounds = b; items = x.items; terms = x.terms };
-  lists = is_listing c b budget runs None (record { bounds = b; items = x.items; terms = x.terms }) laws x.sound x.licensed x.covered refl;
+  lists = is_listing c b budget runs None (record { bounds = b; items = x.items; terms = x.terms }) laws x.sound x.licensed x.covered x.few refl;
   text_is = h (record { bounds = b; items = x.items; terms = x.terms }) x.sums;
 }
 

@@ -18,8 +18,9 @@ use Rattle.cc_model.specs.Runs.{IsInput, path_at, end_at}
 use Rattle.cc_model.specs.Traced.{Event, term}
 use Rattle.cc_model.specs.Conditions.{condition, last_atoms, events_of, layer}
 use Rattle.cc_model.specs.Tested.{Tested, tested, Layer, Offers}
-use Rattle.cc_model.specs.Listing.{Listing, spent_item, unrun_item, count_by, is_stray, run_count, tests, IsComplete, Above, Sound, Licensed, Covered, Enumerates, EnumeratesBut}
+use Rattle.cc_model.specs.Listing.{Item, Listing, spent_item, unrun_item, count_by, is_stray, run_count, tests, IsComplete, Above, Sound, Licensed, Covered, Enumerates, EnumeratesBut}
 use Rattle.cc_laws.specs.LinearForms.{linear}
+use Rattle.search_dfs.specs.Output.{HasFewCells}
 use Rattle.search_dfs.specs.Setting.{column_in}
 
 -- the test of a run
@@ -59,7 +60,8 @@ pub record MissesNoMore (p : Program) (b : Limits) (after : Option Path) (l : Li
   pub few : (paths : List Path) → HoldsPaths p b None paths → run_count l ≤ length paths
 
 -- A listing of the program's tested function within the bounds, above the path `after` where one is given, of at most so many
--- runs, with this budget for a solve. Each item is real and has its cause, and at each prefix every alternative is settled.
+-- runs, with this budget for a solve. Each item is real and has its cause, its input's map can be read again, and at each prefix
+-- every alternative is settled.
 -- Where no run concretised it misses no more than it says, and where the five counts are zero its tests enumerate the paths of
 -- every input, each once, in byte order. For an easy program with runs for each path, the counts are zero.
 pub record IsListing (sites : List Site) (p : Program) (b : Limits) (runs budget : ℕ) (after : Option Path) (l : Listing) : Type 0 where
@@ -67,6 +69,7 @@ pub record IsListing (sites : List Site) (p : Program) (b : Limits) (runs budget
   pub sound : Sound after (tested p b) l.items
   pub licensed : Licensed after (searched sites p b budget) runs l
   pub covered : Covered after (searched sites p b budget) l.items
+  pub few : (x : Item) → In x l.items → HasFewCells x
   pub misses_no_more : l.terms ≡ [] → MissesNoMore p b after l
   pub enumerates : IsComplete l → Enumerates after (tested p b) (tests l.items)
   pub complete : IsEasy p b budget → (paths : List Path) → HoldsPaths p b after paths → length paths + room after ≤ runs → IsComplete l
