@@ -99,7 +99,8 @@ fn turned(
         return Err(Fail::new("no such event"));
     }
     let wanted = Outcome::from_byte(byte).ok_or("no outcome")?;
-    let Some(outcome) = offered(&events[k as usize], wanted) else {
+    let event = &events[k as usize];
+    let Some(outcome) = offered(event, wanted) else {
         return Err(Fail::new("no such alternative"));
     };
     Ok(turn(alloc, checked, trace, k, outcome, bounds, budget)?)
