@@ -274,12 +274,17 @@ fn slices(rt: HostRuntime) -> Result<(), Fail> {
     check_rows(&rt, THREE_FIFTHS, deep(1024), 2, &narrow)
 }
 
-const SQUARE: &str =
-    "int f(int x) { int z; z = x*x; if (z == 0) if (x == 5) return 1; return 0; }";
+const SQUARE: &str = "int f(int x) { int z; z = x*x; if (z == 0) if (x == 5) return 1; return 0; }";
 
 #[test]
 fn behind_a_term(rt: HostRuntime) -> Result<(), Fail> {
-    check_rows(&rt, SQUARE, deep(1024), BUDGET, &[("0", 2, b'T', "5", ".F")])
+    check_rows(
+        &rt,
+        SQUARE,
+        deep(1024),
+        BUDGET,
+        &[("0", 2, b'T', "5", ".F")],
+    )
 }
 
 const WALK: &str = "struct cell { int v; struct cell *next; };
@@ -368,8 +373,20 @@ fn arrays_of_pointers(rt: HostRuntime) -> Result<(), Fail> {
     let rows = [
         ("0,0", 0, b'a', "3,0,0,0,0", "a.T"),
         ("3,0,7,0,0", 2, b'F', "3,6,7,0,9,0,0,0,0,0,0", "a.Fa.!"),
-        ("3,6,7,0,9,1,0,0,2,0,0", 5, b'a', "3,6,7,3,9,0,0,0,0,0,0", "a.Fa.a"),
-        ("3,6,7,0,9,1,0,0,2,0,0", 5, b'b', "3,6,7,9,12,0,0,0,0,0,0,0,0,0", "a.Fa.b"),
+        (
+            "3,6,7,0,9,1,0,0,2,0,0",
+            5,
+            b'a',
+            "3,6,7,3,9,0,0,0,0,0,0",
+            "a.Fa.a",
+        ),
+        (
+            "3,6,7,0,9,1,0,0,2,0,0",
+            5,
+            b'b',
+            "3,6,7,9,12,0,0,0,0,0,0,0,0,0",
+            "a.Fa.b",
+        ),
         ("3,6,7,0,9,1,0,0,2,0,0", 2, b'T', "3,6,7,0,6,0,0,0", "a.T"),
     ];
     check_rows(&rt, KIDS, deep(1024), BUDGET, &rows)
