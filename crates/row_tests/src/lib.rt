@@ -10,4 +10,6 @@ mod searches;
 #[cfg(test)]
 mod traces;
 #[cfg(test)]
+mod turns;
+#[cfg(test)]
 mod words;

@@ -1,0 +1,416 @@
+//! Turned events: the run of a program on an input, one of its events and another outcome there, and what is answered.
+
+ghost use Rattle.std.specs.Prelude.{◌≡◌, ◌≤◌, map, length, IfOk, IfSome};
+ghost use Rattle.cc_base.specs.Paths.{In};
+ghost use Rattle.cc_model.specs.CheckedProgram.{core_of};
+ghost use Rattle.cc_model.specs.Compiles.{Compiles};
+ghost use Rattle.cc_model.specs.Graphs.{PointsToCells};
+ghost use Rattle.cc_model.specs.Runs.{params_of, IsInput};
+ghost use Rattle.row_tests.specs.Turns.{IsWithinIf};
+ghost use Rattle.sym_run.specs.Traces.{IsTrace, others_at};
+ghost use Rattle.tac_lower.specs.Finished.{first_in};
+ghost use Rattle.tac_lower.specs.Seen.{seen};
+
+use c_lex::lex;
+use c_parse::parse;
+use c_types::check;
+use cc_laws::a_checked_program_points_to_cells;
+use cc_model::Checked;
+use cc_model::base::{Bounds, Input, Outcome};
+use flip_solve::{Turned, turn};
+use input_map::{read_map, write_map};
+use run_laws::a_run_is_lawful;
+use std::alloc::Global;
+use std::process::Abort;
+use std::test::Fail;
+use sym_run::{Event, Trace, run, same_outcome};
+use tac_lower::{Tac, lower};
+
+/// The budget where a row names none.
+const BUDGET: u64 = 20_000;
+
+/// An input; the number of an event of its run, from 0, and another outcome there; the answer, in which a `?` at the end of a
+/// number stands for its digits, and the path of the run on it.
+type Row = (&'static str, u32, u8, &'static str, &'static str);
+
+/// A checked program, and its code.
+#[derive(Drop)]
+struct Compiled {
+    checked: Checked,
+    tac: Tac,
+}
+
+/// The program of a source, to test the function f.
+fn compile(alloc: Global, source: &[u8]) -> Result<Compiled, Fail>
+    ensures compiles { IfOk result (λ c. Compiles (core_of c.checked) (map (seen c.checked) c.tac.code) (λ f. first_in c.tac f)) }
+    ensures points { IfOk result (λ c. PointsToCells (core_of c.checked).layouts (params_of (core_of c.checked))) }
+{
+    a_checked_program_points_to_cells();
+    if source.len() > 1_048_576 {
+        return Err(Fail::new("the source is too long"));
+    }
+    let tokens = lex(alloc, source)?;
+    let program = parse(alloc, &tokens)?;
+    let checked = check(alloc, source, &tokens, program, "f")?;
+    let tac = lower(alloc, &checked)?;
+    Ok(Compiled { checked, tac })
+}
+
+/// The input of a map text.
+fn read_input(alloc: Global, text: &str, checked: &Checked, bounds: &Bounds) -> Result<Input, Fail>
+    ensures { IfOk result (λ h. IsInput (core_of checked.now) bounds.now h) }
+{
+    match read_map(alloc, text.as_bytes(), checked, bounds) {
+        Ok(input) => Ok(input),
+        Err(fault) => Err(Fail::from(fault)),
+    }
+}
+
+/// The outcome, where it is one of the event's alternatives.
+fn offered(event: &Event, outcome: Outcome) -> Option<Outcome>
+    ensures { IfSome result (λ o. In o (others_at event.now)) }
+{
+    for choice in event.others.as_slice() {
+        if same_outcome(choice.outcome, outcome) {
+            return Some(choice.outcome);
+        }
+    }
+    None
+}
+
+/// What is answered at event k of a run.
+fn turned(
+    alloc: Global,
+    checked: &Checked,
+    trace: &Trace,
+    k: u32,
+    byte: u8,
+    bounds: &Bounds,
+    budget: u64,
+) -> Result<Turned, Fail>
+    requires points { PointsToCells (core_of checked.now).layouts (params_of (core_of checked.now)) }
+    requires input { IsInput (core_of checked.now) bounds.now (trace.now).input }
+    requires trace { IsTrace checked.now bounds.now (trace.now).input trace.now }
+    ensures { IfOk result (λ a. IsWithinIf (core_of checked.now) bounds.now a) }
+{
+    a_run_is_lawful();
+    let events = trace.events.as_slice();
+    if k as usize >= events.len() {
+        return Err(Fail::new("no such event"));
+    }
+    let wanted = Outcome::from_byte(byte).ok_or("no outcome")?;
+    let event = &events[k as usize];
+    let Some(outcome) = offered(event, wanted) else {
+        return Err(Fail::new("no such alternative"));
+    };
+    Ok(turn(alloc, checked, trace, k, outcome, bounds, budget)?)
+}
+
+/// Whether the text is that of the pattern.
+fn is_like(pattern: &str, text: &str) -> bool {
+    let mut numbers = text.split(',');
+    for wanted in pattern.split(',') {
+        let number = numbers.next().unwrap_or("");
+        let fits = match wanted.strip_suffix('?') {
+            Some(head) => number.starts_with(head) && number.len() > head.len(),
+            None => number == wanted,
+        };
+        if !fits {
+            return false;
+        }
+    }
+    numbers.next().is_none()
+}
+
+/// The text of a path.
+fn path_text(alloc: Global, trace: &Trace) -> Result<String, Fail> {
+    let mut text = String::new(alloc);
+    for event in trace.events.as_slice() {
+        text.push(letter(event.taken.outcome))?;
+    }
+    Ok(text)
+}
+
+/// The letter of an outcome.
+fn letter(outcome: Outcome) -> char {
+    match outcome {
+        Outcome::Zero => '!',
+        Outcome::High => '+',
+        Outcome::Low => '-',
+        Outcome::Plain => '.',
+        Outcome::False => 'F',
+        Outcome::True => 'T',
+        Outcome::Object(rank) => "abcdefgh".chars().nth(rank as usize).unwrap_or('?'),
+    }
+}
+
+/// Compares an input, and the path of the run on it, with a row.
+fn check_input(
+    rt: &(impl Abort + AllocGlobal),
+    compiled: &Compiled,
+    bounds: &Bounds,
+    input: &Input,
+    row: Row,
+) -> Result<(), Fail>
+    requires compiles { Compiles (core_of (compiled.now).checked) (map (seen (compiled.now).checked) (compiled.now).tac.code) (λ f. first_in (compiled.now).tac f) }
+    requires points { PointsToCells (core_of (compiled.now).checked).layouts (params_of (core_of (compiled.now).checked)) }
+    requires input { IsInput (core_of (compiled.now).checked) bounds.now input.now }
+{
+    let (from, k, _byte, answer, path) = row;
+    let map = write_map(rt.alloc(), input)?;
+    let map = str::from_utf8(map.as_slice())?;
+    assert!(rt; is_like(answer, map), "{from} at {k}: {map}");
+    let trace = run(rt.alloc(), &compiled.checked, &compiled.tac, input, bounds)?;
+    let told = path_text(rt.alloc(), &trace)?;
+    assert_eq!(rt; told.as_str(), path, "the run on {map}");
+    Ok(())
+}
+
+/// Turns an event, and compares what is answered.
+fn check_row(
+    rt: &(impl Abort + AllocGlobal),
+    compiled: &Compiled,
+    bounds: &Bounds,
+    budget: u64,
+    row: Row,
+) -> Result<(), Fail>
+    requires compiles { Compiles (core_of (compiled.now).checked) (map (seen (compiled.now).checked) (compiled.now).tac.code) (λ f. first_in (compiled.now).tac f) }
+    requires points { PointsToCells (core_of (compiled.now).checked).layouts (params_of (core_of (compiled.now).checked)) }
+{
+    let (from, k, byte, answer, _path) = row;
+    let alloc = rt.alloc();
+    let checked = &compiled.checked;
+    let input = read_input(alloc, from, checked, bounds)?;
+    let trace = run(alloc, checked, &compiled.tac, &input, bounds)?;
+    match turned(alloc, checked, &trace, k, byte, bounds, budget)? {
+        Turned::Never => assert_eq!(rt; "never", answer, "{from} at {k}"),
+        Turned::Spent => assert_eq!(rt; "spent", answer, "{from} at {k}"),
+        Turned::Turned(input) => check_input(rt, compiled, bounds, &input, row)?,
+    }
+    Ok(())
+}
+
+/// The rows of a program.
+fn check_rows(
+    rt: &(impl Abort + AllocGlobal),
+    source: &str,
+    bounds: Option<Bounds>,
+    budget: u64,
+    rows: &[Row],
+) -> Result<(), Fail> {
+    let bounds = bounds.ok_or("bounds")?;
+    let compiled = compile(rt.alloc(), source.as_bytes())?;
+    for row in rows {
+        check_row(rt, &compiled, &bounds, budget, *row)?;
+    }
+    Ok(())
+}
+
+/// The bounds where no option is given, but for the depth.
+fn deep(depth: u32) -> Option<Bounds> {
+    Bounds::new(i32::MIN, i32::MAX, depth, 8, 100_000)
+}
+
+const TWO_CELLS: &str = "struct cell { int v; struct cell *next; };
+int f(struct cell *p, struct cell *q) {
+  p->v = 1;
+  q->v = 2;
+  assert(p->v == 1);
+  return 0;
+}
+";
+
+#[test]
+fn two_cells(rt: HostRuntime) -> Result<(), Fail> {
+    let rows = [
+        ("0,0", 0, b'a', "3,0,0,0", "a!"),
+        ("3,0,0,0", 0, b'!', "0,0", "!"),
+        ("3,0,0,0", 1, b'a', "3,3,0,0", "aaaF"),
+        ("3,0,0,0", 1, b'b', "3,5,0,0,0,0", "abaT"),
+        // the first block's number is kept, the second block's is not known before its access
+        ("3,5,7,0,8,0", 1, b'a', "3,3,7,0", "aaaF"),
+        ("3,3,7,3", 1, b'b', "3,5,7,0,0,0", "abaT"),
+    ];
+    check_rows(&rt, TWO_CELLS, deep(1024), BUDGET, &rows)
+}
+
+const THREE: &str = "int f(int x) { if (x == 3) return 1; return 0; }";
+
+#[test]
+fn one_number(rt: HostRuntime) -> Result<(), Fail> {
+    let rows = [("0", 0, b'T', "3", "T"), ("3", 0, b'F', "?", "F")];
+    check_rows(&rt, THREE, deep(1024), BUDGET, &rows)?;
+    let small = Bounds::new(i32::MIN, 2, 1024, 8, 100_000);
+    check_rows(&rt, THREE, small, BUDGET, &[("0", 0, b'T', "never", "")])?;
+    // one atom on one place needs two units
+    check_rows(&rt, THREE, deep(1024), 2, &[("0", 0, b'T', "3", "T")])?;
+    check_rows(&rt, THREE, deep(1024), 1, &[("0", 0, b'T', "spent", "")])
+}
+
+const THREE_FIFTHS: &str =
+    "int f(int a, int b, int x) { if (3*a == 5*b) if (x > 0) return 1; return 0; }";
+
+#[test]
+fn slices(rt: HostRuntime) -> Result<(), Fail> {
+    let rows = [
+        ("0,0,0", 0, b'+', "?,0,0", "+"),
+        ("0,0,0", 0, b'-', "-?,0,0", "-"),
+        ("0,0,0", 1, b'+', "0,?,0", ".+"),
+        ("0,0,0", 1, b'-', "0,-?,0", ".-"),
+        ("0,0,0", 2, b'F', "?,?,0", "..F"),
+        ("0,0,0", 3, b'T', "0,0,?", "..TT"),
+        // numbers outside the slice are the run's own
+        ("5,3,7", 0, b'+', "?,3,7", "+"),
+        ("5,3,7", 1, b'-', "5,-?,7", ".-"),
+        ("5,3,7", 2, b'F', "?,?,7", "..F"),
+        ("5,3,7", 3, b'F', "5,3,?", "..TF"),
+    ];
+    check_rows(&rt, THREE_FIFTHS, deep(1024), BUDGET, &rows)?;
+    // the slice of the last event is x alone, that of the one before has both products
+    let narrow = [
+        ("5,3,7", 3, b'F', "5,3,?", "..TF"),
+        ("5,3,7", 2, b'F', "spent", ""),
+    ];
+    check_rows(&rt, THREE_FIFTHS, deep(1024), 2, &narrow)
+}
+
+const SQUARE: &str = "int f(int x) { int z; z = x*x; if (z == 0) if (x == 5) return 1; return 0; }";
+
+#[test]
+fn behind_a_term(rt: HostRuntime) -> Result<(), Fail> {
+    check_rows(
+        &rt,
+        SQUARE,
+        deep(1024),
+        BUDGET,
+        &[("0", 2, b'T', "5", ".F")],
+    )
+}
+
+const WALK: &str = "struct cell { int v; struct cell *next; };
+int f(struct cell *p) {
+  while (p) p = p->next;
+  return 0;
+}
+";
+
+#[test]
+fn lists_and_cycles(rt: HostRuntime) -> Result<(), Fail> {
+    let rows = [
+        ("0", 0, b'T', "2,0,0", "TaF"),
+        ("2,9,0", 2, b'T', "2,9,4,0,0", "TaTbF"),
+        ("2,9,4,8,0", 3, b'a', "2,9,2", "TaTaTa"),
+        ("2,9,4,8,0", 4, b'T', "2,9,4,8,6,0,0", "TaTbTc"),
+        ("2,9,4,8,6,7,0", 5, b'a', "2,9,4,8,2", "TaTbTa"),
+        ("2,9,4,8,6,7,0", 5, b'b', "2,9,4,8,4", "TaTbTb"),
+    ];
+    check_rows(&rt, WALK, deep(6), BUDGET, &rows)
+}
+
+const NAMED: &str = "struct cell { int v; struct cell *next; };
+int f(struct cell *p, struct cell *q) {
+  if (p == q) return 1;
+  return 0;
+}
+";
+
+#[test]
+fn blocks_that_are_never_accessed(rt: HostRuntime) -> Result<(), Fail> {
+    let rows = [
+        ("0,0", 0, b'F', "3,5,4,0,4,0", "F"),
+        ("3,0,5,0", 0, b'T', "3,3,4,0", "T"),
+    ];
+    let high = Bounds::new(4, 9, 1024, 8, 100_000);
+    check_rows(&rt, NAMED, high, BUDGET, &rows)
+}
+
+const SHARED: &str = "struct cell { int v; struct cell *next; };
+int f(struct cell *p, struct cell *q) {
+  if (p->next == q->next) return 1;
+  return 0;
+}
+";
+
+#[test]
+fn a_block_with_two_names(rt: HostRuntime) -> Result<(), Fail> {
+    let rows = [
+        ("3,5,-1,0,-2,0", 2, b'F', "3,5,-1,7,-2,9,0,0,0,0", "abF"),
+        ("3,5,-1,7,-2,9,0,0,0,0", 2, b'T', "3,5,-1,7,-2,7,0,0", "abT"),
+        ("3,5,-1,3,-2,3", 2, b'F', "3,5,-1,7,-2,9,0,0,0,0", "abF"),
+    ];
+    check_rows(&rt, SHARED, deep(1024), BUDGET, &rows)
+}
+
+const TWICE: &str = "int f(int **p, int *q) {
+  **p = 5;
+  if (*p == q) return 1;
+  return *q;
+}
+";
+
+#[test]
+fn pointers_to_pointers(rt: HostRuntime) -> Result<(), Fail> {
+    let rows = [
+        ("0,0", 0, b'a', "3,0,0", "a!"),
+        ("3,0,0", 1, b'b', "3,0,4,0", "abaF!"),
+        ("3,0,4,-6", 3, b'T', "3,4,4,-6", "abaT"),
+        // the two pointers were asked to differ
+        ("3,0,4,0", 4, b'b', "never", ""),
+        ("3,0,4,-6", 4, b'c', "3,4,5,0,-6", "abaFc"),
+    ];
+    check_rows(&rt, TWICE, deep(1024), BUDGET, &rows)
+}
+
+const KIDS: &str = "struct node { int v; struct node *kid[2]; };
+int f(struct node *n, struct node *m) {
+  if (n->kid[1] == m) return 1;
+  return n->kid[0]->v;
+}
+";
+
+#[test]
+fn arrays_of_pointers(rt: HostRuntime) -> Result<(), Fail> {
+    let rows = [
+        ("0,0", 0, b'a', "3,0,0,0,0", "a.T"),
+        ("3,0,7,0,0", 2, b'F', "3,6,7,0,9,0,0,0,0,0,0", "a.Fa.!"),
+        (
+            "3,6,7,0,9,1,0,0,2,0,0",
+            5,
+            b'a',
+            "3,6,7,3,9,0,0,0,0,0,0",
+            "a.Fa.a",
+        ),
+        (
+            "3,6,7,0,9,1,0,0,2,0,0",
+            5,
+            b'b',
+            "3,6,7,9,12,0,0,0,0,0,0,0,0,0",
+            "a.Fa.b",
+        ),
+        ("3,6,7,0,9,1,0,0,2,0,0", 2, b'T', "3,6,7,0,6,0,0,0", "a.T"),
+    ];
+    check_rows(&rt, KIDS, deep(1024), BUDGET, &rows)
+}
+
+const TAKES: &str = "int f(void) {
+  int x;
+  int y;
+  CREST_int(x);
+  if (x > 10) {
+    CREST_int(y);
+    if (y < x) return 1;
+  }
+  return 0;
+}
+";
+
+#[test]
+fn numbers_of_the_stream(rt: HostRuntime) -> Result<(), Fail> {
+    let rows = [
+        ("~", 0, b'T', "~/?", "TT"),
+        ("~/11,7", 0, b'F', "~/?", "F"),
+        ("~/11", 1, b'F', "~/?,?", "TF"),
+        ("~/11,12", 1, b'T', "~/?,?", "TT"),
+    ];
+    check_rows(&rt, TAKES, deep(1024), BUDGET, &rows)
+}
