@@ -1,7 +1,8 @@
 #!/usr/bin/env bash
-# Times the front end on sources of 1,048,576 bytes at most: each is read and checked whole, and the program answers
-# `run not yet`, lists the one path of its tested function, or, for `fields` and `many_fields`, says what is too large. Takes the program as ./tevgoral has built it, and prints a
-# table of seconds and of the largest resident memory. No part of the gate. Wants GNU time as /usr/bin/time.
+# Times the front end on sources of 1,048,576 bytes at most: each is read and checked whole, and the program makes one run
+# of its tested function, or, for `fields` and `many_fields`, says what is too large. Takes the program as ./tevgoral has
+# built it, and prints a table of seconds and of the largest resident memory. No part of the gate. Wants GNU time as
+# /usr/bin/time.
 set -euo pipefail
 top=$(cd "$(dirname "$0")/.." && pwd)
 room=$(mktemp -d)
