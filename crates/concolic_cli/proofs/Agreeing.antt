@@ -1,9 +1,8 @@
 -- Lists of tests that enumerate the same paths.
-use Rattle.std.proofs.Common.{◌≡◌, ◌↔◌, ◌⊎◌, inl, inr, List, [], ◌∷◌, map, Option, Some, None, refl, sym, ap, ap₂, ◌∙◌, subst}
-use Rattle.cc_base.specs.declared.inputs.Input.{Input}
+use Rattle.std.proofs.Common.{◌≡◌, ◌↔◌, inl, inr, List, [], ◌∷◌, map, Option, Some, None, refl, sym, ap, ap₂, ◌∙◌, subst}
 use Rattle.cc_base.specs.declared.inputs.Test.{Test}
 use Rattle.cc_base.specs.Paths.{Path, In, Pairwise, Before}
-use Rattle.cc_model.specs.Tested.{Tested, Real}
+use Rattle.cc_model.specs.Tested.{Tested}
 use Rattle.cc_model.specs.Listing.{Enumerates}
 use Rattle.search_dfs.proofs.Paths.{before_irr, before_trans}
 
