@@ -1,5 +1,5 @@
 -- What a call comes to, by its status.
-use Rattle.std.proofs.Common.{◌≡◌, ℕ, zero, suc, ◌+◌, ◌<◌, ◌≤◌, ◌⊎◌, ◌↔◌, Option, inl, inr, ⊎_elim, Bool, true, false, List, [], ◌∷◌, ◌++◌, refl, sym, ap, subst, ◌∙◌, arith, codes, if◌then◌else◌, nat_eq}
+use Rattle.std.proofs.Common.{◌≡◌, ℕ, zero, suc, ◌+◌, ◌≤◌, ◌⊎◌, Option, inl, inr, ⊎_elim, Bool, true, false, List, [], ◌∷◌, ◌++◌, refl, sym, subst, ◌∙◌, arith, codes, if◌then◌else◌, nat_eq}
 use Rattle.cc_base.specs.Limits.{Limits}
 use Rattle.cc_base.specs.Paths.{Path, In}
 use Rattle.cc_model.specs.declared.commands.Command.TheVariants.{Make}
@@ -10,10 +10,10 @@ use Rattle.cc_outside.specs.Faults.{Rose}
 use Rattle.input_map.specs.declared.faults.MapFault.{MapFault}
 use Rattle.concolic_cli.specs.declared.refusal.Refusal.{Refusal}
 use Rattle.concolic_cli.specs.declared.refusal.Refusal.TheVariants as refusal
-use Rattle.concolic_cli.specs.Concolic.{Call, Answered, bad, done, refused, made, unmade, PartStands, of_task, of_make, SourceIsRefused, MadeIsRefused, FileFault, FileIsRefused}
+use Rattle.concolic_cli.specs.Concolic.{Call, Answered, bad, done, refused, made, unmade, SourceIsRefused, FileFault, FileIsRefused}
 use Rattle.concolic_cli.specs.Made.{made_source, made_entry}
 use Rattle.concolic_cli.specs.Refusals.{bad_word_text, file_text, map_text_of, Says, IsAnswered}
-use Rattle.concolic_cli.specs.Session.{ReadAs, Wrote, WroteFirst, Stands, nothing, Cause, SourceCause, WroteLast, WroteLastFirst, LastStands, no_line, first_part, MadeCause}
+use Rattle.concolic_cli.specs.Session.{ReadAs, Wrote, WroteFirst, Stands, nothing, Cause, SourceCause, WroteLast, WroteLastFirst, LastStands, no_line, MadeCause}
 use Rattle.concolic_cli.specs.Sources.{Refuses}
 use Rattle.concolic_cli.specs.Tasks.{Task, Work, list, trace, Asks, IsReport, RefusesTask}
 use Rattle.concolic_cli.specs.Words.{Accepted, BadWord}

@@ -6,12 +6,10 @@ use Rattle.cc_model.specs.declared.tokens.Token.{Token}
 use Rattle.cc_model.specs.declared.checked.Checked.{Checked}
 use Rattle.cc_model.specs.declared.typing.Wrong as typing
 use Rattle.cc_model.specs.declared.typing.Wrong.TheVariants as kind
-use Rattle.cc_model.specs.Core.{Program}
 use Rattle.cc_model.specs.CheckedProgram.{core_of}
 use Rattle.cc_model.specs.Lexical.{line_at}
 use Rattle.cc_model.specs.Runs.{IsInput}
 use Rattle.cc_model.specs.Source.{IsProgram}
-use Rattle.cc_outside.specs.Told.{WritesPart}
 use Rattle.input_map.specs.Maps.{IsMap}
 use Rattle.concolic_cli.specs.declared.refusal.Wrong.{Wrong}
 use Rattle.concolic_cli.specs.declared.refusal.Wrong.TheVariants as wrong
@@ -20,9 +18,9 @@ use Rattle.concolic_cli.specs.declared.refusal.Refusal.TheVariants as refused
 use Rattle.concolic_cli.specs.Made.{made_source, made_entry}
 use Rattle.concolic_cli.specs.Programs.{ReadsAs, IsLexical, IsFaulty, IsWrong, IsNoProgram}
 use Rattle.concolic_cli.specs.Refusals.{what_text}
-use Rattle.concolic_cli.specs.Session.{ReadAs, FileCause, MapCause, SourceCause, WriteCause, Seen, WroteFirst, part, Cause, nothing, LastStands, no_line, first_part, WroteLastFirst, MadeCause}
+use Rattle.concolic_cli.specs.Session.{ReadAs, FileCause, MapCause, SourceCause, WriteCause, Seen, WroteFirst, part, Cause, nothing, no_line, first_part, WroteLastFirst, MadeCause}
 use Rattle.concolic_cli.specs.Sources.{offset_of, source_text, wrong_text, no_entry_text, Refuses, lexical, syntax, too_deep, fault, no_entry}
-use Rattle.concolic_cli.specs.Tasks.{Task, Work, list, trace}
+use Rattle.concolic_cli.specs.Tasks.{Task, Work, trace}
 
 -- a bad byte, number, comment or directive
 lexical_cause : (bytes entry : List ℕ) (line : ℕ) (what : List ℕ) → IsLexical bytes line what → Refuses bytes entry (source_text line what)

@@ -1,7 +1,6 @@
 -- Words in pairs of a name and another word, and what stands behind a name.
-use Rattle.std.proofs.Common.{◌≡◌, ◌∙◌, sym, ap, refl, subst, ℕ, zero, suc, ◌+◌, ◌*◌, ◌≤◌, ◌⊎◌, inl, inr, ℤ, Bool, true, false, List, [], ◌∷◌, ◌++◌, take, length, Option, Some, None, IsSome, arith, if◌then◌else◌}
+use Rattle.std.proofs.Common.{◌≡◌, ◌∙◌, sym, ap, refl, subst, ℕ, zero, suc, ◌+◌, ◌*◌, ◌≤◌, inl, inr, Bool, true, false, List, [], ◌∷◌, ◌++◌, take, length, Option, Some, None, IsSome, arith, if◌then◌else◌}
 use Rattle.std.specs.Prelude.{bytes_eq, IfNone}
-use Rattle.std.specs.Fmt.{signed_decimal}
 use Rattle.std.proofs.lemmas.Slice.Eq.{bytes_eq-Decides}
 use Rattle.concolic_cli.specs.declared.words.Takes.{Takes}
 use Rattle.concolic_cli.specs.Words.{Row, takes_of, AreNamed, behind, IsFine}

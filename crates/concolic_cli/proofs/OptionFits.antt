@@ -7,7 +7,7 @@ use lib.Signed.{mag}
 use Rattle.concolic_cli.specs.declared.words.Range.{Range}
 use Rattle.concolic_cli.specs.declared.words.Takes.{Takes}
 use Rattle.concolic_cli.specs.declared.words.Takes.TheVariants.{Number, PathText}
-use Rattle.concolic_cli.specs.Words.{Row, NumberRow, takes_of, AreNamed, behind, IsFine, IsGiven, IsNumber, IsPath, IsValue, min_option, max_option}
+use Rattle.concolic_cli.specs.Words.{Row, NumberRow, takes_of, AreNamed, behind, IsFine, IsGiven, IsValue, min_option, max_option}
 use Rattle.concolic_cli.specs.Options.{IsTable, Fits, FitsWith, IsBadAt}
 use Rattle.concolic_cli.proofs.Numerals.{text_once, mag_between}
 use Rattle.concolic_cli.proofs.NamedWords.{Words, append_nil, same_name, named_both, named_after, behind_both, behind_own, behind_other}

@@ -5,7 +5,6 @@ use Rattle.std.proofs.lemmas.Int.{ints}
 use lib.Signed.{mag}
 use Rattle.cc_base.specs.Limits.{Limits}
 use Rattle.concolic_cli.specs.declared.words.Range.{Range}
-use Rattle.concolic_cli.specs.declared.words.Takes.{Takes}
 use Rattle.concolic_cli.specs.declared.words.Takes.TheVariants.{Number, PathText}
 use Rattle.concolic_cli.specs.Words.{Row, NumberRow, row, after_option, AreNamed, behind, IsFine, IsGiven, AreBounds, min_option, max_option, objects_option, steps_option, depth_option, solver_option, run_options, trace_options}
 use Rattle.concolic_cli.specs.Options.{IsTable, Fits, FitsWith, IsBadAt}

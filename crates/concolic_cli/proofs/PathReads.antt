@@ -1,6 +1,5 @@
 -- What is read of the bytes of a path, one after the other.
 use Rattle.std.proofs.Common.{◌≡◌, ◌≢◌, ◌∙◌, sym, ap, refl, subst, ℕ, zero, suc, ◌+◌, ◌<◌, ◌≤◌, List, [], ◌∷◌, ◌++◌, All, map, take, length, Option, Some, None, slice_index_or, arith}
-use Rattle.std.specs.Prelude.{IfSome, IfNone}
 use Rattle.cc_base.specs.declared.outcomes.Outcome.{Outcome}
 use Rattle.cc_base.specs.Outcomes.{byte_of, HasByte}
 use Rattle.cc_base.specs.Paths.{Path}

@@ -1,10 +1,10 @@
 -- Words that are texts of paths, and where they stand.
-use Rattle.std.proofs.Common.{◌≡◌, ◌∙◌, sym, ap, ap₂, refl, subst, ℕ, zero, suc, ◌+◌, ◌-◌, ◌<◌, ◌≤◌, ◌⊎◌, inl, inr, Bool, true, false, List, [], ◌∷◌, ◌++◌, All, map, length, Option, Some, None, slice_get, slice_index_or, drop, ◌↔◌, codes, arith, if◌then◌else◌}
+use Rattle.std.proofs.Common.{◌≡◌, ◌∙◌, sym, ap, ap₂, refl, subst, ℕ, zero, suc, ◌+◌, ◌<◌, ◌⊎◌, inl, inr, Bool, true, false, List, [], ◌∷◌, All, map, length, Some, slice_get, slice_index_or, drop, ◌↔◌, codes, arith, if◌then◌else◌}
 use Rattle.std.specs.Prelude.{bytes_eq}
 use Rattle.cc_base.specs.declared.outcomes.Outcome.{Outcome}
 use Rattle.cc_base.specs.declared.outcomes.Outcome.TheVariants.{Zero, High, Low, Plain, False, True, Object}
 use Rattle.cc_base.specs.Outcomes.{byte_of, HasByte}
-use Rattle.cc_base.specs.Paths.{Path, path_text}
+use Rattle.cc_base.specs.Paths.{Path}
 use Rattle.concolic_cli.specs.declared.words.Takes.TheVariants.{PathText}
 use Rattle.concolic_cli.specs.Words.{IsPath, IsFine, behind, place_behind}
 use Rattle.concolic_cli.proofs.NamedWords.{Words}

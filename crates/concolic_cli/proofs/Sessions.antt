@@ -1,6 +1,6 @@
 -- What a session that lists comes to, and what `make` does.
 use Rattle.std.specs.Prelude.{option_copied}
-use Rattle.std.proofs.Common.{◌≡◌, ℕ, ◌+◌, List, Option, None, Some, option_map, Bor, refl, sym, ap, subst, ◌∙◌}
+use Rattle.std.proofs.Common.{◌≡◌, ℕ, ◌+◌, List, Option, None, Some, option_map, Bor, refl, ap, subst, ◌∙◌}
 use Rattle.cc_base.specs.Limits.{Limits}
 use Rattle.cc_base.specs.Paths.{Path}
 use Rattle.cc_model.specs.CheckedProgram.{core_of}

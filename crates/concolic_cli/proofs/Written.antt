@@ -1,14 +1,13 @@
 -- What stands of a report while it is written, line by line.
-use Rattle.std.proofs.Common.{◌≡◌, ℕ, ◌<◌, ◌≤◌, ◌⊎◌, inl, inr, List, [], ◌++◌, Option, None, Result, Ok, Err, refl, sym, ap, subst, ◌∙◌, arith, append_assoc}
+use Rattle.std.proofs.Common.{◌≡◌, ℕ, ◌≤◌, inl, inr, List, [], ◌++◌, Option, None, Result, Ok, Err, refl, sym, ap, subst, ◌∙◌, arith, append_assoc}
 use Rattle.std.specs.Prelude.{IfOk}
 use Rattle.cc_base.specs.Limits.{Limits}
 use Rattle.cc_base.specs.Paths.{Path}
 use Rattle.cc_model.specs.declared.checked.Checked.{Checked}
 use Rattle.cc_model.specs.CheckedProgram.{core_of}
 use Rattle.cc_model.specs.Listing.{Item, Listing}
-use Rattle.cc_model.specs.Report.{bounds_line, item_lines, term_lines, last_line, report_text, verdict_of}
+use Rattle.cc_model.specs.Report.{bounds_line, item_lines, term_lines, last_line, verdict_of}
 use Rattle.cc_model.specs.Tested.{Term, tested}
-use Rattle.cc_outside.specs.Faults.{Rose}
 use Rattle.cc_outside.specs.Told.{appended, WritesPart}
 use Rattle.cc_outside.proofs.ToldLemmas.{appended-appended, WritesPart-none, WritesPart-first, WritesPart-after}
 use Rattle.search_dfs.specs.declared.search.Summary.{Summary}

@@ -1,5 +1,5 @@
 -- The listing of a program's tested function.
-use Rattle.std.specs.Prelude.{ℕ, ◌+◌, ◌≤◌, ◌≡◌, List, [], ◌∷◌, length, Option, Some, None}
+use Rattle.std.specs.Prelude.{ℕ, ◌+◌, ◌≤◌, ◌≡◌, List, [], length, Option, Some, None}
 use Rattle.cc_base.specs.declared.ends.End.TheVariants.{Steps}
 use Rattle.cc_base.specs.declared.inputs.Input.{Input}
 use Rattle.cc_base.specs.declared.inputs.Test.{Test}
@@ -17,7 +17,7 @@ use Rattle.cc_model.specs.Meaning.{Entry}
 use Rattle.cc_model.specs.Runs.{IsInput, path_at, end_at}
 use Rattle.cc_model.specs.Traced.{Event, term}
 use Rattle.cc_model.specs.Conditions.{condition, last_atoms, events_of, layer}
-use Rattle.cc_model.specs.Tested.{Tested, tested, Layer, Offers}
+use Rattle.cc_model.specs.Tested.{tested, Layer, Offers}
 use Rattle.cc_model.specs.Listing.{Item, Listing, spent_item, unrun_item, count_by, is_stray, run_count, tests, IsComplete, Above, Sound, Licensed, Covered, Enumerates, EnumeratesBut}
 use Rattle.cc_laws.specs.LinearForms.{linear}
 use Rattle.search_dfs.specs.Output.{HasFewCells}

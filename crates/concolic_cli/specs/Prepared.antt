@@ -9,7 +9,6 @@ use Rattle.cc_model.specs.Runs.{IsInput, run_of, end_at}
 use Rattle.input_map.specs.declared.faults.MapFault.{MapFault}
 use Rattle.input_map.specs.CellFaults.{Refused}
 use Rattle.input_map.specs.Maps.{IsMap}
-use Rattle.sym_run.specs.declared.trace.Event.{Event}
 use Rattle.sym_run.specs.declared.trace.Trace.{Trace}
 use Rattle.sym_run.specs.Traces.{IsTrace, ArePlain, outcome_at}
 use Rattle.concolic_cli.specs.declared.prepared.Traced.{Traced}

@@ -7,7 +7,7 @@ use Rattle.cc_model.specs.declared.typing.Wrong as typing
 use Rattle.cc_model.specs.declared.typing.Wrong.TheVariants as fault
 use Rattle.cc_model.specs.Lexical.{LexicalFault, tokens_of, line_at}
 use Rattle.cc_model.specs.Reads.{Accepts}
-use Rattle.cc_model.specs.Faults.{Found, WellTyped, IsFirst, has_entry}
+use Rattle.cc_model.specs.Faults.{WellTyped, IsFirst, has_entry}
 use Rattle.cc_model.specs.CheckedProgram.{IsChecked}
 use Rattle.cc_model.specs.Source.{text_at, place_line}
 use Rattle.concolic_cli.specs.Sources.{offset_of, what_of}

@@ -1,7 +1,6 @@
 -- The causes of refusals, and the run.
-use Rattle.std.proofs.Common.{sym, subst, ⊎_elim}
+use Rattle.std.proofs.Common.{sym}
 use Rattle.concolic_cli.specs.Tasks.{trace}
-use Rattle.input_map.specs.Maps.{IsMap}
 use Rattle.concolic_cli.proofs.Causes.{no_program_cause, map_cause}
 use Rattle.concolic_cli.proofs.Reports.{traced_is}
 use Rattle.concolic_cli.proofs.prepared.prepare_trace.Goals as goal

@@ -1,5 +1,5 @@
 -- The first fault of the program is at the checker's token.
-use Rattle.std.proofs.Common.{subst, refl}
+use Rattle.std.proofs.Common.{subst}
 use Rattle.cc_model.specs.Source.{text_at}
 use Rattle.c_types.specs.Refused.{IsTypeFault}
 use Rattle.concolic_cli.proofs.program.refusal_in.Goals as goal

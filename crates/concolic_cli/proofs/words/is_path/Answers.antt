@@ -1,4 +1,4 @@
-use Rattle.std.proofs.Common.{⊎_elim, sym, ◌∙◌}
+use Rattle.std.proofs.Common.{⊎_elim, ◌∙◌}
 use Rattle.std.proofs.lemmas.Slice.Eq.{bytes_eq-Decides}
 use Rattle.std.specs.Prelude.{codes}
 use Rattle.concolic_cli.proofs.PathWords.{path_bytes}
