@@ -14,7 +14,7 @@ trap 'rm -rf "$room"' EXIT
 independent() {
     awk -v k="$1" 'BEGIN {
         printf "int f("
-        for (i = 1; i <= k; i++) printf "%sint a%d", i > 1 ? ", " : "", i
+        for (i = 1; i <= k; i++) printf "%sint a%d", (i > 1 ? ", " : ""), i
         print ") {"
         print "  int n = 0;"
         for (i = 1; i <= k; i++) printf "  if (a%d > 0) n = %d;\n", i, i
@@ -41,7 +41,8 @@ measure() {
     paths=$(grep -c '^test ' "$room/out" || true)
     case $1 in make) paths=$(sed -n 's/^complete paths=\([0-9]*\) .*/\1/p' "$room/out") ;; esac
     awk -v name="$name" -v size="$size" -v paths="${paths:-0}" -v seconds="$seconds" -v kb="$kilobytes" -v last="$last" 'BEGIN {
-        each = seconds > 0 ? sprintf("%.0f", paths / seconds) : "-"
+        each = "-"
+        if (seconds > 0) each = sprintf("%.0f", paths / seconds)
         printf "%-12s %6s %8d %9.2f %10s %7d  %s\n", name, size, paths, seconds, each, kb / 1024, last
     }'
 }

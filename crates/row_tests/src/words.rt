@@ -95,7 +95,8 @@ fn takes_a_path(rt: HostRuntime) -> Result<(), Fail> {
     for (text, after) in [
         ("run t.c f 1 -dfs 1 -after ~", Some(8)),
         ("run t.c f 1 -dfs 1 -min 1 -after TT+..az", Some(10)),
-        ("run t.c f 1 -dfs 1 -after -after", None),
+        // A low result and five objects.
+        ("run t.c f 1 -dfs 1 -after -after", Some(8)),
     ] {
         let command = read_text(rt.alloc(), text)?;
         let number = match command {
