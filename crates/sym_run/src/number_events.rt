@@ -35,7 +35,7 @@ fn opposite(form: &Form) -> Form
 fn choice(alloc: Global, outcome: Outcome, atom: Atom) -> Result<Choice, NoMemory>
     ensures { IfOk result (λ r. choice_of r ≡ choice_with outcome (atom_of atom ∷ [])) }
 {
-    let mut atoms = Items::new(alloc);
+    let mut atoms = Items::from_vec(Vec::with_capacity(alloc, 1)?);
     atoms.push(atom)?;
     Ok(Choice { outcome, atoms })
 }
@@ -46,7 +46,7 @@ fn plain_choice(alloc: Global, form: &Form, opposite: &Form) -> Result<Choice, N
     requires opposite { IsNarrow opposite.now }
     ensures { IfOk result (λ r. choice_of r ≡ choice_with Outcome.Plain (at_most_zero (linear.shift form.now (negsuc 2147483646)) ∷ at_most_zero (linear.shift opposite.now (negsuc 2147483647)) ∷ [])) }
 {
-    let mut atoms = Items::new(alloc);
+    let mut atoms = Items::from_vec(Vec::with_capacity(alloc, 2)?);
     atoms.push(Atom::Le(form.shift(-2_147_483_647)))?;
     atoms.push(Atom::Le(opposite.shift(-2_147_483_648)))?;
     Ok(Choice {

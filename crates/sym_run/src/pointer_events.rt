@@ -55,7 +55,7 @@ pub(crate) fn place_beside(symbols: &Symbols, cell: Cell) -> Option<First>
 pub(crate) fn choice(alloc: Global, outcome: Outcome, atom: Atom) -> Result<Choice, NoMemory>
     ensures { IfOk result (λ c. choice_of c ≡ record { outcome = outcome; atoms = atom_of atom ∷ [] }) }
 {
-    let mut atoms = Items::new(alloc);
+    let mut atoms = Items::from_vec(Vec::with_capacity(alloc, 1)?);
     atoms.push(atom)?;
     Ok(Choice { outcome, atoms })
 }
