@@ -20,8 +20,8 @@ use Rattle.cc_model.specs.Conditions.{condition, last_atoms, events_of, layer}
 use Rattle.cc_model.specs.Tested.{tested, Layer, Offers}
 use Rattle.cc_model.specs.Listing.{Item, Listing, spent_item, unrun_item, count_by, is_stray, run_count, tests, IsComplete, Above, Sound, Licensed, Covered, Enumerates, EnumeratesBut}
 use Rattle.cc_laws.specs.LinearForms.{linear}
+use Rattle.search_dfs.specs.Below.{column_in}
 use Rattle.search_dfs.specs.Output.{HasFewCells}
-use Rattle.search_dfs.specs.Setting.{column_in}
 
 -- the test of a run
 abbrev pub test_at : Program → Limits → Input → Test
