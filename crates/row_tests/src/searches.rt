@@ -8,16 +8,18 @@ use std::test::Fail;
 
 /// Whether the text is that of the pattern, in which each `?` stands for a number.
 fn is_like(pattern: &str, text: &str) -> bool {
-    let Some((head, tail)) = pattern.split_once('?') else {
-        return pattern == text;
-    };
-    let Some(rest) = text.strip_prefix(head) else {
+    let mut parts = pattern.split('?');
+    let Some(mut rest) = text.strip_prefix(parts.next().unwrap_or("")) else {
         return false;
     };
-    is_like(
-        tail,
-        rest.trim_start_matches(|c: char| c == '-' || c.is_ascii_digit()),
-    )
+    for part in parts {
+        let behind = rest.trim_start_matches(|c: char| c == '-' || c.is_ascii_digit());
+        let Some(tail) = behind.strip_prefix(part) else {
+            return false;
+        };
+        rest = tail;
+    }
+    rest.is_empty()
 }
 
 /// The lines of a report, without the first.
