@@ -6,18 +6,27 @@ use std::alloc::Global;
 use std::process::Abort;
 use std::test::Fail;
 
+/// What stands behind a number.
+fn behind_number(text: &[u8]) -> &[u8] {
+    let digits = text
+        .iter()
+        .take_while(|byte| **byte == b'-' || byte.is_ascii_digit());
+    text.get(digits.count()..).unwrap_or(b"")
+}
+
 /// Whether the text is that of the pattern, in which each `?` stands for a number.
 fn is_like(pattern: &str, text: &str) -> bool {
-    let mut parts = pattern.split('?');
-    let Some(mut rest) = text.strip_prefix(parts.next().unwrap_or("")) else {
-        return false;
-    };
-    for part in parts {
-        let behind = rest.trim_start_matches(|c: char| c == '-' || c.is_ascii_digit());
-        let Some(tail) = behind.strip_prefix(part) else {
+    let mut rest = text.as_bytes();
+    for wanted in pattern.bytes() {
+        if wanted == b'?' {
+            rest = behind_number(rest);
+        } else if let Some((byte, tail)) = rest.split_first()
+            && *byte == wanted
+        {
+            rest = tail;
+        } else {
             return false;
-        };
-        rest = tail;
+        }
     }
     rest.is_empty()
 }
