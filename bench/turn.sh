@@ -15,7 +15,7 @@ for crate in "$top"/crates/*/; do
     cp -r "$crate/src" "$crate/specs" "$crate/proofs" "$room/crates/$name"
     grep "^$name:" "$top/crates.txt" >>"$room/crates.txt"
 done
-echo "bench_turn: flip_solve run_laws sym_run input_map tac_lower c_types c_parse c_lex cc_laws cc_model" >>"$room/crates.txt"
+echo "bench_turn: flip_solve run_laws sym_run input_map tac_lower c_types c_parse c_lex cc_laws cc_model cc_base" >>"$room/crates.txt"
 cp "$top/HANDLES" "$room"
 
 # the program's files have the ending .txt here, since the gate takes each .rt and .antt file for a crate's
