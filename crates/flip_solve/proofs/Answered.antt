@@ -26,6 +26,7 @@ use Rattle.sym_run.specs.declared.trace.Trace.{Trace}
 use Rattle.sym_run.specs.Asks.{choices_of}
 use Rattle.sym_run.specs.Stands.{IsEvent}
 use Rattle.sym_run.specs.Traces.{IsTrace, others_at}
+use Rattle.flip_solve.specs.Needed.{IsTraceFrom}
 use Rattle.flip_solve.specs.Choosing.{taken_of, IsAskedOf}
 use Rattle.flip_solve.specs.declared.flipping.Turned.{Turned}
 use Rattle.flip_solve.specs.declared.flipping.Turned.TheVariants as came
@@ -35,6 +36,7 @@ use Rattle.flip_solve.specs.Turning.{turned_at, IsTurnedIf, HasNoneIf, Keeps, Ke
 use Rattle.flip_solve.proofs.Refuted.{some_input}
 use Rattle.flip_solve.proofs.Prefixes.{outcomes, last_is, condition_is, before_is, turns, meets_then}
 use Rattle.flip_solve.proofs.Members.{some_same, got_below}
+use Rattle.flip_solve.proofs.Bared.{taken_whole, later_whole}
 use Rattle.flip_solve.proofs.Gathered.{event_there, taken_is, offered_there, within_at, asked_of}
 use Rattle.flip_solve.proofs.Settled.{in_range}
 
@@ -100,7 +102,7 @@ if_ok (Ok a) P Q f h = f a h
 if_ok (Err e) P Q f h = tt
 
 module _ (ck : Checked) (b : Limits) (t : Trace) (k : ℕ) (o : Outcome) (budget : ℕ) (order : b.lo ≤ℤ b.hi)
-    (points : PointsToCells (core_of ck).layouts (params_of (core_of ck))) (is : IsInput (core_of ck) b t.input) (trace : IsTrace ck b t.input t)
+    (points : PointsToCells (core_of ck).layouts (params_of (core_of ck))) (is : IsInput (core_of ck) b t.input) (trace : IsTraceFrom k ck b t.input t)
     (lawful : Lawful (core_of ck) b t.input)
     (e : Written) (get : slice_get t.events k ≡ Some e) (off : In o (others_at e))
     (taken : List WrittenAtom) (other : List WrittenAtom) (is_taken : written_atoms taken ≡ taken_of (take k t.events)) (is_other : written_atoms other ≡ atoms_of o (choices_of e.others)) where
@@ -110,8 +112,14 @@ module _ (ck : Checked) (b : Limits) (t : Trace) (k : ℕ) (o : Outcome) (budget
   abbrev log : List (Entry Event)
   log = events_of linear q b t.input
 
+  run : IsTrace ck b t.input trace.whole
+  run = trace.of_run
+
+  places : t.places ≡ places_of linear q b t.input
+  places = ap (λ (x : Trace). x.places) trace.rest ∙ run.places
+
   there : (x : Entry Event) × (slice_get log k ≡ Some x) × IsEvent ck x e
-  there = event_there ck log t.events k e trace.events get
+  there = event_there ck log (trace.whole).events k e run.events (sym (later_whole ck b t.input t k trace k (omega arith)) ∙ get)
 
   at : slice_get log k ≡ Some there.0
   at = there.1
@@ -120,13 +128,13 @@ module _ (ck : Checked) (b : Limits) (t : Trace) (k : ℕ) (o : Outcome) (budget
   offers = offered_there ck there.0 e o there.2 off
 
   taken_same : written_atoms taken ≡ condition k log
-  taken_same = is_taken ∙ taken_is ck log t.events k trace.events
+  taken_same = is_taken ∙ taken_whole ck b t.input t k trace k ∙ taken_is ck log (trace.whole).events k run.events
 
   other_same : written_atoms other ≡ atoms_of o (alternatives (there.0).event)
   other_same = is_other ∙ ap (atoms_of o) (there.2).others
 
   pub asked_there : IsAskedOf q b t.places e.places (written_atoms taken) (written_atoms other) t.input
-  asked_there = subst (λ (l : List Placed). IsAskedOf q b l e.places (written_atoms taken) (written_atoms other) t.input) (sym trace.places)
+  asked_there = subst (λ (l : List Placed). IsAskedOf q b l e.places (written_atoms taken) (written_atoms other) t.input) (sym places)
       (subst (λ (m : List Atom). IsAskedOf q b (places_of linear q b t.input) e.places m (written_atoms other) t.input) (sym taken_same)
       (subst (λ (m : List Atom). IsAskedOf q b (places_of linear q b t.input) e.places (condition k log) m t.input) (sym other_same)
       (asked_of q b t.input order points is lawful k there.0 at e.places (there.2).places o offers)))
@@ -135,7 +143,7 @@ module _ (ck : Checked) (b : Limits) (t : Trace) (k : ℕ) (o : Outcome) (budget
   CameThere r = Settles q b budget t.places e.places (written_atoms taken) (written_atoms other) t.input r
 
   settled : (r : Turned) → CameThere r → Settles q b budget (places_of linear q b t.input) e.places (condition k log) (atoms_of o (alternatives (there.0).event)) t.input r
-  settled r s = subst (λ (l : List Placed). Settles q b budget l e.places (condition k log) (atoms_of o (alternatives (there.0).event)) t.input r) trace.places
+  settled r s = subst (λ (l : List Placed). Settles q b budget l e.places (condition k log) (atoms_of o (alternatives (there.0).event)) t.input r) places
       (subst (λ (m : List Atom). Settles q b budget t.places e.places m (atoms_of o (alternatives (there.0).event)) t.input r) taken_same
       (subst (λ (m : List Atom). Settles q b budget t.places e.places (written_atoms taken) m t.input r) other_same s))
 

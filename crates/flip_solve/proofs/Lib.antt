@@ -8,6 +8,7 @@ pub mod Kept
 pub mod Prefixes
 pub mod Ranges
 pub mod Gathered
+pub mod Bared
 pub mod Steps
 pub mod Pushed
 pub mod Settled

@@ -1,3 +1,4 @@
 pub mod Choosing
 pub mod Settling
 pub mod Turning
+pub mod Needed

@@ -8,8 +8,9 @@ ghost use Rattle.cc_model.specs.Graphs.{PointsToCells};
 ghost use Rattle.cc_model.specs.Runs.{params_of, IsInput};
 ghost use Rattle.cc_laws.specs.LinearForms.{linear};
 ghost use Rattle.sym_run.specs.declared.trace.Event.{Event as PlainEvent};
-ghost use Rattle.sym_run.specs.Traces.{IsTrace, others_at};
+ghost use Rattle.sym_run.specs.Traces.{others_at};
 ghost use Rattle.run_laws.specs.Lawful.{Lawful};
+ghost use Rattle.flip_solve.specs.Needed.{IsTraceFrom};
 ghost use Rattle.flip_solve.specs.Settling.{answer_of};
 ghost use Rattle.flip_solve.specs.Turning.{turned_at, IsTurnedIf, HasNoneIf, KeepsIf};
 
@@ -36,7 +37,7 @@ pub enum Turned {
 }
 
 /// An input that takes another outcome at an event of a run, where there is one, and where the budget of each group of
-/// atoms suffices to tell.
+/// atoms suffices to tell. The trace needs no alternatives of earlier events.
 ///
 /// It has the run's own numbers where none of the atoms that had to be solved names them. Two pointers are the same, or
 /// NULL, only where the atoms force it, or, for NULL, where no atom names the pointer. The rest of it is that of the base input.
@@ -53,7 +54,7 @@ pub fn turn(
 ) -> Result<Turned, NoMemory>
     requires points { PointsToCells (core_of checked.now).layouts (params_of (core_of checked.now)) }
     requires input { IsInput (core_of checked.now) bounds.now (trace.now).input }
-    requires trace { IsTrace checked.now bounds.now (trace.now).input trace.now }
+    requires trace { IsTraceFrom k checked.now bounds.now (trace.now).input trace.now }
     requires lawful { Lawful (core_of checked.now) bounds.now (trace.now).input }
     requires offered { (e : PlainEvent) × (slice_get (trace.now).events k ≡ Some e) × In outcome (others_at e) }
     ensures answer { IfOk result (λ a. AnswersAt linear (core_of checked.now) bounds.now budget (trace.now).input (turned_at (core_of checked.now) bounds.now (trace.now).input k outcome) (answer_of a)) }

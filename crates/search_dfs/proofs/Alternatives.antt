@@ -1,20 +1,17 @@
 -- One turn: a level is released, or the least open outcome is taken off it and tried.
-use Rattle.std.proofs.Common.{take, ◌≡◌, ◌≢◌, ℕ, zero, suc, ◌+◌, ◌-◌, ◌*◌, ◌<◌, ◌≤◌, Bool, true, false, ◌⊎◌, ◌↔◌, inl, inr, List, [], ◌∷◌, ◌++◌, length, Option, Some, None, IsSome, refl, sym, ap, ap₂, ◌∙◌, subst, arith, get_or, nat_eq, if◌then◌else◌}
+use Rattle.std.proofs.Common.{◌≡◌, ◌≢◌, ℕ, suc, ◌-◌, ◌<◌, true, ◌↔◌, inl, inr, List, [], ◌∷◌, ◌++◌, length, Option, IsSome, refl, sym, ap, ◌∙◌, subst, arith, get_or, if◌then◌else◌}
 use Rattle.std.proofs.lemmas.Bool.Decides.{eqb_tells}
 use Rattle.std.specs.Option.{option_to_list}
 use Rattle.cc_base.specs.declared.outcomes.Outcome.{Outcome}
-use Rattle.cc_base.specs.Paths.{Path, In}
+use Rattle.cc_base.specs.Paths.{Path}
 use Rattle.search_dfs.specs.Search.{State}
 use Rattle.search_dfs.specs.Setting.{Setting}
 use Rattle.search_dfs.specs.declared.open.Pending.{Pending}
 use Rattle.search_dfs.specs.declared.open.Open.{Open}
-use Rattle.search_dfs.specs.Setting.{layer_of}
-use Rattle.search_dfs.specs.Stack.{levels}
 use Rattle.path_tree.specs.Branches.{NoneOpen}
-use Rattle.search_dfs.specs.Stack.{last_first, left_at, path_of_run, Level, Levels, Rest}
+use Rattle.search_dfs.specs.Stack.{last_first, left_at, Level, Levels, Rest}
 use Rattle.search_dfs.specs.Turns.{levels_of, runs_of, Fits_open, Taken, Matches, Stopped_at, Turn, TurnSome, weight}
-use Rattle.search_dfs.specs.Output.{Items, Out, Wrote, WroteSome}
-use Rattle.path_tree.specs.Branches.{Branches}
+use Rattle.search_dfs.specs.Output.{Out}
 use Rattle.search_dfs.proofs.Outputs.{wrote_none}
 use Rattle.search_dfs.proofs.Loop.{released}
 use Rattle.search_dfs.proofs.Down.{last_is, popped}

@@ -1,5 +1,5 @@
 -- The outcomes of an event, and what a new run tells.
-use Rattle.std.proofs.Common.{◌≡◌, ◌≢◌, ℕ, zero, suc, ◌-◌, ◌^◌, ◌<◌, ◌≤◌, ◌⊎◌, ◌↔◌, inl, inr, List, [], ◌∷◌, ◌++◌, length, map, take, Option, Some, None, MatchOption, All, slice_get, slice_index_or, refl, sym, ap, ap₂, ◌∙◌, subst, arith, get_or, insert}
+use Rattle.std.proofs.Common.{◌≡◌, ◌≢◌, ℕ, zero, suc, ◌-◌, ◌^◌, ◌<◌, ◌≤◌, ◌⊎◌, ◌↔◌, inl, inr, List, [], ◌∷◌, ◌++◌, length, map, take, Option, Some, None, MatchOption, All, slice_get, slice_index_or, refl, sym, ap, ◌∙◌, subst, arith, get_or, insert}
 use Rattle.cc_base.specs.declared.inputs.Input.{Input}
 use Rattle.cc_base.specs.declared.outcomes.Outcome.{Outcome}
 use Rattle.cc_base.specs.declared.outcomes.Outcome.TheVariants.{Zero}
@@ -18,6 +18,7 @@ use Rattle.search_dfs.specs.Inserting.{IsPlace}
 use Rattle.search_dfs.specs.Setting.{Setting, layer_of, TraceOf, ChoicesOf, own_at, within_of, others_of, path_of, base_of}
 use Rattle.search_dfs.specs.Stack.{last_first, left_at}
 use Rattle.std.proofs.lemmas.List.Elements.{All-nil, All-cons, All-append, All-take}
+use Rattle.flip_solve.proofs.Bared.{whole_trace}
 use Rattle.search_dfs.proofs.Telling.{tells}
 use Rattle.search_dfs.proofs.Down.{last_is, snoc_first, left_same, left_more}
 use Rattle.search_dfs.proofs.Inserting.{ascends, in_inserted}
@@ -74,7 +75,7 @@ module _ (s : Setting) where
   unfolding layer_of
   within_input i w = w
 
-  module _ (t : Trace) (p : Path) (tr : TraceOf s t p) where
+  module _ (n : ℕ) (t : Trace) (p : Path) (tr : TraceOf s n t p) where
     pub events_path : map outcome_at t.events ≡ p
     unfolding layer_of
     events_path = (tr.trace).path ∙ sym tr.path
@@ -82,16 +83,16 @@ module _ (s : Setting) where
     pub events_long : length t.events ≡ length p
     events_long = sym (map_long outcome_at t.events) ∙ ap length events_path
 
-    pub event_few : (k : ℕ) (e : Event) → k < length p → e ≡ get_or t.events k e → OffersFew e
-    event_few k e h f = let n = events_long in (tr.trace).few k e (there_is t.events k e (omega (arith, h, n)) f)
+    pub event_few : (k : ℕ) (e : Event) → n ≤ k → k < length p → e ≡ get_or t.events k e → OffersFew e
+    event_few k e le h f = let m = events_long in (tr.trace).few k e le (there_is t.events k e (omega (arith, h, m)) f)
 
-    pub event_choices : (k : ℕ) (e : Event) (os : List Outcome) → k < length p → e ≡ get_or t.events k e → Ascend os → ((o : Outcome) → In o os ↔ ((o ≡ outcome_at e) ⊎ In o (others_at e))) → length os ≤ 29 → ChoicesOf s t.input k os
+    pub event_choices : (k : ℕ) (e : Event) (os : List Outcome) → n ≤ k → k < length p → e ≡ get_or t.events k e → Ascend os → ((o : Outcome) → In o os ↔ ((o ≡ outcome_at e) ⊎ In o (others_at e))) → length os ≤ 29 → ChoicesOf s t.input k os
     unfolding layer_of
-    event_choices k e os h f up all few =
-        let n = events_long in
-        let at = there_is t.events k e (omega (arith, h, n)) f in
+    event_choices k e os le h f up all few =
+        let m = events_long in
+        let at = there_is t.events k e (omega (arith, h, m)) f in
         let own : outcome_at e ≡ own_at k (path_of s t.input) = own_there t.events k e at ∙ ap (own_at k) (tr.trace).path in
-        let same : others_at e ≡ others_of s t.input k = (tr.trace).others k e at in
+        let same : others_at e ≡ others_of s t.input k = (tr.trace).others k e le at in
         record {
           ascend = up;
           all = λ o. subst (λ x. In o os ↔ ((o ≡ x) ⊎ In o (others_of s t.input k))) own (subst (λ l. In o os ↔ ((o ≡ outcome_at e) ⊎ In o l)) same (all o));
@@ -100,13 +101,13 @@ module _ (s : Setting) where
 
   module _ (i : Input) (t : Trace) (p : Path) (it : IsTrace s.checked s.limits i t) (path : p ≡ path_at (core_of s.checked) s.limits i) (e : p ≡ map outcome_at t.events) (end : t.end ≡ end_at (core_of s.checked) s.limits i)
       (few : (k : ℕ) (x : Event) → slice_get t.events k ≡ Some x → OffersFew x) (bytes : All HasByte (map outcome_at t.events)) where
-    pub made_trace : within_of s i → length i.cells < 10 ^ 18 → length t.events ≤ s.limits.depth → InRange s.limits → TraceOf s t p
+    pub made_trace : within_of s i → length i.cells < 10 ^ 18 → length t.events ≤ s.limits.depth → InRange s.limits → TraceOf s 0 t p
     unfolding layer_of
     made_trace w cells short range =
-        let told : Tells s.checked s.limits t.input t = subst (λ h. Tells s.checked s.limits h t) (sym it.input) (tells s.checked s.limits i t it (sym e ∙ path) end few bytes) in
+        let told : Tells 0 s.checked s.limits t.input t = subst (λ h. Tells 0 s.checked s.limits h t) (sym it.input) (tells s.checked s.limits i t it (sym e ∙ path) end few bytes) in
         record {
           within = subst (within_of s) (sym it.input) w;
-          is_trace = subst (λ h. IsTrace s.checked s.limits h t) (sym it.input) it;
+          is_trace = whole_trace s.checked s.limits t.input t 0 (subst (λ h. IsTrace s.checked s.limits h t) (sym it.input) it);
           trace = told;
           path = e ∙ told.path;
           end = told.end;
@@ -146,16 +147,16 @@ module _ (s : Setting) where
   unfolding layer_of
   path_there i = refl
 
-  module _ (t : Trace) (p : Path) (tr : TraceOf s t p) (k : ℕ) (o : Outcome) (h : k < length p) (i : In o (others_of s t.input k)) where
+  module _ (n : ℕ) (t : Trace) (p : Path) (tr : TraceOf s n t p) (k : ℕ) (o : Outcome) (le : n ≤ k) (h : k < length p) (i : In o (others_of s t.input k)) where
     pub event_offered : (e : Event) × (slice_get t.events k ≡ Some e) × In o (others_at e)
     unfolding layer_of
-    event_offered = let n = events_long s t p tr in let e = some_at t.events k (omega (arith, h, n)) in
-        (e.0, e.1, subst (In o) (sym ((tr.trace).others k e.0 e.1)) i)
+    event_offered = let m = events_long s n t p tr in let e = some_at t.events k (omega (arith, h, m)) in
+        (e.0, e.1, subst (In o) (sym ((tr.trace).others k e.0 le e.1)) i)
 
     -- the prefix of an alternative has bytes
     pub prefix_bytes : All HasByte (next (take k p) o)
     prefix_bytes = let e = event_offered in
-        All-append HasByte (take k p) (o ∷ []) (All-take HasByte k p tr.bytes) (All-cons HasByte o [] (((tr.trace).few k e.0 e.1).bytes o e.2) (All-nil HasByte))
+        All-append HasByte (take k p) (o ∷ []) (All-take HasByte k p tr.bytes) (All-cons HasByte o [] (((tr.trace).few k e.0 le e.1).bytes o e.2) (All-nil HasByte))
 
 module _ (s : Setting) (i : Input) where
   pub input_within : IsInput (core_of s.checked) s.limits i → within_of s i

@@ -1,10 +1,8 @@
 -- Two paths compared from the front.
-use Rattle.std.proofs.Common.{take, ◌≡◌, ◌≢◌, ℕ, zero, suc, ◌+◌, ◌<◌, ◌≤◌, ◌⊎◌, inl, inr, List, [], ◌∷◌, ◌++◌, length, Option, Some, refl, sym, ap, ◌∙◌, subst, arith, get_or}
+use Rattle.std.proofs.Common.{take, ◌≡◌, ℕ, zero, suc, ◌+◌, ◌<◌, ◌≤◌, ◌⊎◌, inl, inr, [], ◌∷◌, length, Some, sym, ap, subst, arith, get_or}
 use Rattle.cc_base.specs.declared.outcomes.Outcome.{Outcome}
 use Rattle.cc_base.specs.Outcomes.{byte_of}
 use Rattle.cc_base.specs.Paths.{Path, Before, BeginsWith}
-use Rattle.cc_model.specs.Listing.{Reached}
-use Rattle.search_dfs.proofs.Loop.{first_whole}
 use Rattle.search_dfs.proofs.Paths.{before_irr, before_trans, before_longer, compare_paths, begins_self, byte_tells, order_of}
 use Rattle.search_dfs.proofs.Firsts.{first_both, all_same}
 

@@ -1,26 +1,24 @@
 -- Going into the last run.
-use Rattle.std.proofs.Common.{◌≡◌, ◌≢◌, ℕ, zero, suc, ◌+◌, ◌-◌, ◌*◌, ◌<◌, ◌≤◌, Bool, true, false, ◌⊎◌, ◌↔◌, inl, inr, List, [], ◌∷◌, ◌++◌, length, Option, Some, None, refl, sym, ap, ap₂, ◌∙◌, subst, arith, append_assoc, length-append, get_or, take, IsSome}
+use Rattle.std.proofs.Common.{◌≡◌, ◌≢◌, ℕ, suc, ◌+◌, ◌-◌, ◌*◌, ◌<◌, ◌≤◌, Bool, true, ◌↔◌, inl, inr, List, [], ◌∷◌, ◌++◌, length, Option, Some, None, refl, sym, ap, ap₂, ◌∙◌, subst, arith, length-append, get_or, IsSome}
 use Rattle.std.proofs.Math.Nat.{mul-le-mul_left}
 use Rattle.std.proofs.lemmas.Bool.Decides.{eqb_tells}
 use Rattle.std.proofs.Common.{if◌then◌else◌}
 use Rattle.std.specs.Option.{option_to_list}
 use Rattle.std.proofs.Common.{Result, Ok, Err, OnErr, OnOk}
 use Rattle.cc_base.specs.declared.outcomes.Outcome.{Outcome}
-use Rattle.cc_base.specs.Paths.{Path, In}
+use Rattle.cc_base.specs.Paths.{Path}
 use Rattle.cc_model.specs.Listing.{Item, test_item, past_item, Above, NotAbove}
 use Rattle.search_dfs.specs.Search.{State, test_of}
-use Rattle.search_dfs.proofs.Paths.{append_nil}
 use Rattle.search_dfs.specs.Setting.{Setting}
 use Rattle.search_dfs.specs.declared.open.Pending.{Pending}
 use Rattle.search_dfs.specs.declared.open.Open.{Open}
-use Rattle.search_dfs.specs.Setting.{layer_of, TraceOf, ChoicesOf, own_at, others_of, path_of}
-use Rattle.search_dfs.specs.Stack.{levels}
+use Rattle.search_dfs.specs.Setting.{layer_of, ChoicesOf, own_at}
 use Rattle.search_dfs.specs.Stack.{last_first, left_at, path_of_run, Level, Levels, Rest, Under}
 use Rattle.search_dfs.specs.Turns.{levels_of, runs_of, Fits_open, Ready, UnderOf, Went, WentSome, weight, cost}
 use Rattle.search_dfs.specs.Output.{Items, Out, Wrote, WroteSome}
 use Rattle.path_tree.specs.Branches.{Branches}
 use Rattle.search_dfs.proofs.Outputs.{wrote_none, some_none}
-use Rattle.search_dfs.proofs.Loop.{released, one, own, entered, ended_test, ended_past, pushed, cut_off}
+use Rattle.search_dfs.proofs.Loop.{ended_test, ended_past, pushed, cut_off}
 use Rattle.search_dfs.specs.Search.{cut_below}
 
 -- ---- the last of a list

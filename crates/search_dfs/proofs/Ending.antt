@@ -1,21 +1,20 @@
 -- What a search has written at its end.
-use Rattle.std.proofs.Common.{◌≡◌, ℕ, zero, suc, get_or, ◌+◌, ◌<◌, ◌≤◌, ◌⊎◌, ◌↔◌, ◌||◌, inl, inr, Bool, true, false, List, [], ◌∷◌, ◌++◌, length, map, drop, Option, refl, sym, ap, ◌∙◌, subst, arith, append_assoc, append-nil}
+use Rattle.std.proofs.Common.{◌≡◌, ℕ, zero, suc, get_or, ◌+◌, ◌<◌, ◌≤◌, ◌↔◌, ◌||◌, inl, inr, false, List, [], ◌∷◌, ◌++◌, length, map, drop, Option, refl, sym, ap, ◌∙◌, subst, arith, append_assoc, append-nil}
 use Rattle.cc_base.specs.declared.inputs.Test.{Test}
 use Rattle.cc_base.specs.Paths.{Path, In}
 use Rattle.cc_model.specs.Tested.{Term}
-use Rattle.cc_model.specs.Listing.{Item, Counts, WasRun, count_by, is_test, is_run, is_spent, is_at_steps, is_stray, is_unrun}
+use Rattle.cc_model.specs.Listing.{Counts, WasRun}
 use Rattle.cc_model.specs.Report.{item_lines, term_line, term_lines, has_fault}
-use Rattle.cc_outside.specs.Faults.{Rose}
 use Rattle.cc_outside.specs.Told.{appended, WritesPart}
-use Rattle.cc_outside.proofs.ToldLemmas.{appended-appended, appended-empty, WritesPart-none, WritesPart-first, WritesPart-after}
+use Rattle.cc_outside.proofs.ToldLemmas.{appended-appended, appended-empty, WritesPart-first, WritesPart-after}
 use Rattle.search_dfs.proofs.Choices.{map_long}
 use Rattle.search_dfs.specs.declared.fault.SearchFault.{SearchFault}
 use Rattle.search_dfs.specs.declared.fault.SearchFault.TheVariants as fault
 use Rattle.search_dfs.specs.declared.search.Summary.{Summary}
 use Rattle.search_dfs.specs.declared.tally.FoundTerm.{FoundTerm}
 use Rattle.search_dfs.specs.declared.tally.Tally.{Tally}
-use Rattle.search_dfs.specs.Explored.{Explored, ExploredSome, Counted, Sums}
-use Rattle.search_dfs.specs.Output.{seen_term, out, InOrder, Tallied}
+use Rattle.search_dfs.specs.Explored.{Explored, ExploredSome, Counted}
+use Rattle.search_dfs.specs.Output.{seen_term, out, InOrder}
 use Rattle.search_dfs.specs.Setting.{Setting, layer_of}
 use Rattle.search_dfs.specs.Turns.{SinkCause}
 use Rattle.search_dfs.specs.Whole.{Listed_whole, Listed_part}

@@ -1,29 +1,28 @@
 -- What comes of an alternative that is solved for, and of going into a run.
-use Rattle.std.proofs.Common.{take, ◌≡◌, ◌≢◌, inl, ℕ, zero, suc, ◌+◌, ◌-◌, ◌<◌, ◌≤◌, Bool, true, false, List, [], ◌∷◌, ◌++◌, length, Option, refl, sym, ap, ap₂, ◌∙◌, subst, arith}
+use Rattle.std.proofs.Common.{take, ◌≡◌, ◌≢◌, inl, ℕ, suc, ◌+◌, ◌<◌, ◌≤◌, true, List, [], ◌∷◌, ◌++◌, length, Option, refl, sym, ap, ap₂, ◌∙◌, subst, arith}
 use Rattle.cc_base.specs.declared.ends.End.{End}
 use Rattle.cc_base.specs.declared.inputs.Input.{Input}
 use Rattle.cc_base.specs.declared.inputs.Test.{Test}
 use Rattle.cc_base.specs.declared.outcomes.Outcome.{Outcome}
 use Rattle.cc_base.specs.Paths.{Path, In, Ascend, next, BeginsWith}
 use Rattle.cc_model.specs.Tested.{never, spent, turned}
-use Rattle.cc_model.specs.Listing.{Item, test_item, past_item, stray_item, spent_item, unrun_item, Reached, PassedOver}
-use Rattle.path_tree.specs.Branches.{Branches}
+use Rattle.cc_model.specs.Listing.{Item, test_item, past_item, stray_item, spent_item, unrun_item, Reached}
 use Rattle.search_dfs.specs.declared.open.Open.{Open}
 use Rattle.search_dfs.specs.declared.open.Pending.{Pending}
 use Rattle.search_dfs.specs.Search.{test_of}
-use Rattle.search_dfs.specs.Setting.{Setting, layer_of, TraceOf, ChoicesOf, own_at, path_of, within_of, meets_of, others_of}
+use Rattle.search_dfs.specs.Setting.{Setting, layer_of, TraceOf, ChoicesOf, own_at, path_of, within_of, meets_of}
 use Rattle.search_dfs.specs.Output.{Out, Wrote, WroteSome}
-use Rattle.search_dfs.specs.Stack.{last_first, left_at, path_of_run}
-use Rattle.search_dfs.specs.Turns.{levels_of, runs_of, Ready, Taken, Solving, Turned_to, Ends, as_test, as_past, Ended, EndedSome, test_at, Went, WentSome, Turn, TurnSome}
+use Rattle.search_dfs.specs.Stack.{last_first, path_of_run}
+use Rattle.search_dfs.specs.Turns.{levels_of, runs_of, Ready, Solving, Turned_to, Ends, as_test, as_past, Ended, EndedSome, test_at, Went, WentSome, Turn, TurnSome}
 use Rattle.search_dfs.proofs.Outputs.{wrote_none}
 use Rattle.search_dfs.proofs.Down.{Stays, went_test, went_past, refused_test, refused_past, snoc_first}
-use Rattle.search_dfs.proofs.Step.{settled, settled_some, refused_turn, by_never, by_spent, by_unrun, by_stray, by_stop, by_pass, ready_gone, turn_gone, some_gone}
+use Rattle.search_dfs.proofs.Step.{settled, settled_some, refused_turn, by_never, by_spent, by_unrun, by_stray, ready_gone, turn_gone, some_gone}
 
 pub runs_there : (l : List Pending) (r : Pending) (rs : List Pending) → last_first l ≡ r ∷ rs → 0 < length l
 runs_there [] r rs e = absurd (cc e)
 runs_there (a ∷ l) r rs e = omega arith
 
-pub test_is : (p : Setting) (r : Pending) → TraceOf p r.trace r.path → test_at r ≡ test_of (layer_of p) (r.trace).input
+pub test_is : (p : Setting) (r : Pending) → TraceOf p r.from r.trace r.path → test_at r ≡ test_of (layer_of p) (r.trace).input
 test_is p r tr = let f : Path → End → Test = λ q e. record { path = q; end = e; input = (r.trace).input } in ap₂ f tr.path tr.end
 
 module _ (p : Setting) (after : Option Path) (limit : ℕ) where
@@ -87,7 +86,7 @@ module _ (p : Setting) (after : Option Path) (limit : ℕ) where
           (by_unrun p after limit b o os ls r rs S.taken S.other S.going re i tu c full refl refl)
 
       -- a new run on the input
-      module _ (v : Pending) (vt : TraceOf p v.trace v.path) (vi : (v.trace).input ≡ i) (lt : b.made < limit) where
+      module _ (v : Pending) (vt : TraceOf p v.from v.trace v.path) (vi : (v.trace).input ≡ i) (lt : b.made < limit) where
         stray_is : stray_item (test_at v) w ≡ stray_item (test_of (layer_of p) i) (next q o)
         stray_is = ap₂ (λ t x. stray_item t x) (test_is p v vt ∙ ap (test_of (layer_of p)) vi) S.prefix
 

@@ -1,5 +1,5 @@
 -- One more element in a list that ascends.
-use Rattle.std.proofs.Common.{◌≡◌, ℕ, zero, suc, ◌+◌, ◌<◌, ◌≤◌, ◌⊎◌, ◌↔◌, inl, inr, List, [], ◌∷◌, ◌++◌, length, map, take, drop, Some, None, slice_get, refl, sym, ap, subst, arith, get_or, insert}
+use Rattle.std.proofs.Common.{◌≡◌, ℕ, zero, suc, ◌+◌, ◌<◌, ◌≤◌, ◌⊎◌, ◌↔◌, inl, inr, List, [], ◌∷◌, length, take, drop, Some, None, slice_get, refl, sym, subst, arith, get_or, insert}
 use Rattle.cc_base.specs.Paths.{In, Pairwise}
 use Rattle.search_dfs.specs.Inserting.{IsPlace}
 use Rattle.search_dfs.proofs.Paths.{in_left, in_right, in_either}

@@ -1,5 +1,5 @@
 -- The tested function with its traced runs keeps the laws of the search.
-use Rattle.std.proofs.Common.{◌≡◌, ◌≢◌, ℕ, zero, suc, ◌-◌, ◌<◌, ◌≤◌, ℤ, ◌≤ℤ◌, ◌⊎◌, inl, inr, List, [], ◌∷◌, length, take, Option, Some, refl, sym, ap, ◌∙◌, subst, arith, slice_get, if◌then◌else◌}
+use Rattle.std.proofs.Common.{◌≡◌, ◌≢◌, ℕ, zero, suc, ◌-◌, ◌<◌, ◌≤◌, ℤ, ◌⊎◌, inl, inr, List, [], ◌∷◌, length, take, Option, Some, refl, sym, ap, ◌∙◌, subst, arith, slice_get, if◌then◌else◌}
 use Rattle.std.proofs.lemmas.Bool.Decides.{eqb_tells}
 use Rattle.cc_base.specs.declared.inputs.Input.{Input}
 use Rattle.cc_base.specs.declared.outcomes.Outcome.{Outcome}
@@ -14,7 +14,7 @@ use Rattle.cc_model.specs.FormOperations.{Forms}
 use Rattle.cc_model.specs.Traced.{Choice, Asked, asks_nothing, one_of, term, Event, traced}
 use Rattle.cc_model.specs.Conditions.{without, taken, alternatives, outcomes_of, condition, condition_at, last_atoms, alternatives_at, clean, terms, events_of, values_at, layer}
 use Rattle.cc_model.specs.Exact.{Exact, Exhausts, Told}
-use Rattle.cc_model.specs.Tested.{Layer, Term, never, Offers}
+use Rattle.cc_model.specs.Tested.{Layer, Term, Offers}
 use Rattle.search_dfs.specs.Laws.{Laws}
 use Rattle.search_dfs.proofs.Paths.{append_nil, length_next, begins_next, in_either}
 use Rattle.cc_model.specs.Answers.{HasNoInput}

@@ -14,6 +14,7 @@ pub mod Step
 pub mod Alternatives
 pub mod Telling
 pub mod Choices
+pub mod Baring
 pub mod RangeLaws
 pub mod RunsKept
 pub mod Ending

@@ -1,5 +1,5 @@
 -- One line that is written and counted.
-use Rattle.std.proofs.Common.{◌≡◌, ◌≤◌, ℕ, List, [], ◌∷◌, ◌++◌, Option, inl, inr, refl, sym, ap, ◌∙◌, subst, append-nil}
+use Rattle.std.proofs.Common.{◌≡◌, ◌≤◌, ℕ, List, [], ◌∷◌, Option, inl, inr, refl, sym, ap, ◌∙◌, subst, append-nil}
 use Rattle.cc_base.specs.Paths.{In}
 use Rattle.cc_model.specs.Listing.{Item}
 use Rattle.cc_model.specs.Report.{item_line, item_lines}

@@ -1,15 +1,11 @@
 -- Each turn of the loop is one rule of the search.
-use Rattle.std.proofs.Common.{take, ◌≡◌, ◌≢◌, ℕ, zero, suc, ◌+◌, ◌<◌, ◌≤◌, Bool, true, false, ◌⊎◌, ◌↔◌, inl, inr, List, [], ◌∷◌, ◌++◌, length, Option, Some, None, refl, sym, ap, ap₂, ◌∙◌, subst, arith, append_assoc, nat_eq, if◌then◌else◌}
+use Rattle.std.proofs.Common.{take, ◌≡◌, ℕ, zero, suc, ◌<◌, ◌≤◌, Bool, true, ◌⊎◌, ◌↔◌, inl, inr, List, [], ◌∷◌, ◌++◌, length, Option, None, refl, sym, ap, ap₂, ◌∙◌, subst, arith, append_assoc, if◌then◌else◌}
 use Rattle.std.proofs.lemmas.Bool.Decides.{eqb_tells}
 use Rattle.cc_base.specs.declared.outcomes.Outcome.{Outcome}
-use Rattle.cc_base.specs.Paths.{Path, In, Ascend, next, BeginsWith}
-use Rattle.cc_model.specs.Tested.{Layer, Offers, never, spent, turned}
-use Rattle.search_dfs.specs.Laws.{Laws}
-use Rattle.cc_model.specs.Listing.{Item, test_item, past_item, stray_item, spent_item, unrun_item, Above, NotAbove, PassedOver, Reached}
-use Rattle.search_dfs.specs.Search.{State, test_of, Job, below, among, via, Asked, Turns, Search, leaf_test, leaf_past, inner, cut_below, cut, none, each, mine, passed, stopped, never_one, spent_one, unrun_one, stray_one, gone, start, Searched}
-use Rattle.search_dfs.proofs.Paths.{append_nil}
+use Rattle.cc_base.specs.Paths.{Path, In, next, BeginsWith}
+use Rattle.cc_model.specs.Listing.{Item, test_item, past_item, Above, NotAbove}
+use Rattle.search_dfs.specs.Search.{State, test_of, below, via, Asked, Turns, leaf_test, leaf_past, inner, cut, none, each, mine, gone}
 use Rattle.search_dfs.specs.Setting.{Setting}
-use Rattle.cc_base.specs.declared.inputs.Input.{Input}
 use Rattle.search_dfs.specs.declared.open.Pending.{Pending}
 use Rattle.search_dfs.specs.Setting.{layer_of, TraceOf, ChoicesOf, own_at, others_of, path_of}
 use Rattle.search_dfs.specs.Stack.{left_at, path_of_run, Level, Levels, Does, Rest, Under}
@@ -117,7 +113,7 @@ module _ (p : Setting) (after : Option Path) (limit : ℕ) (cuts : Bool) where
 
   -- a run that goes on: its outcomes here become the deepest level
   pub pushed : (os : List Outcome) (ls : List (List Outcome)) (r : Pending) (rs : List Pending) (s t : State) (a : I) →
-      TraceOf p r.trace r.path → length ls < length (path_of_run r) → ChoicesOf p (r.trace).input (length ls) os →
+      TraceOf p r.from r.trace r.path → length ls < length (path_of_run r) → ChoicesOf p (r.trace).input (length ls) os →
       Rest p after limit cuts (os ∷ ls) (r ∷ rs) s a t → Under p after limit cuts ls r rs s a t
   pushed os ls r rs s t a tr lt ch (b, c, m, f, d, h) =
       let l : Path = path_of_run r in

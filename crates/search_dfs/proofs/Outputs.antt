@@ -1,13 +1,13 @@
 -- What several items write and count.
-use Rattle.std.proofs.Common.{◌≡◌, ℕ, ◌+◌, ◌≤◌, ◌⊎◌, ◌↔◌, ◌||◌, Bool, true, false, inl, inr, List, [], ◌∷◌, ◌++◌, map, Option, None, Some, refl, sym, ap, ap₂, ◌∙◌, subst, arith, append_assoc}
+use Rattle.std.proofs.Common.{◌≡◌, ℕ, ◌+◌, ◌⊎◌, ◌↔◌, ◌||◌, Bool, true, false, inl, inr, List, [], ◌∷◌, ◌++◌, Option, None, Some, refl, sym, ap, ◌∙◌, subst, arith, append_assoc}
 use Rattle.cc_base.specs.declared.inputs.Test.{Test}
 use Rattle.cc_base.specs.Paths.{In}
 use Rattle.cc_model.specs.Tested.{Term}
-use Rattle.cc_model.specs.Listing.{Item, test_item, past_item, stray_item, spent_item, unrun_item, Listed, WasRun, count_by}
+use Rattle.cc_model.specs.Listing.{Item, test_item, past_item, stray_item, spent_item, unrun_item, WasRun, count_by}
 use Rattle.cc_model.specs.Report.{item_line, item_lines, is_fault, has_fault}
-use Rattle.cc_outside.specs.Told.{appended, WritesPart}
+use Rattle.cc_outside.specs.Told.{appended}
 use Rattle.search_dfs.specs.Setting.{Setting, layer_of}
-use Rattle.search_dfs.specs.Output.{Items, Out, Tallied, Wrote, WroteSome}
+use Rattle.search_dfs.specs.Output.{Items, Out, Wrote, WroteSome}
 use Rattle.search_dfs.proofs.Paths.{in_left, in_right, in_either, append_nil}
 
 appended_more : (old : Option (List ℕ)) (a b : List ℕ) → appended (appended old a) b ≡ appended old (a ++ b)

@@ -1,22 +1,22 @@
 -- The integers of which a run's atoms speak are within the bounds.
-use Rattle.std.proofs.Common.{◌≡◌, ℕ, zero, suc, ℤ, pos, ◌≤ℤ◌, Bool, true, false, ◌⊎◌, inl, inr, List, [], ◌∷◌, ◌++◌, map, Option, IsSome, Some, None, unwrap_or, refl, sym, ap, ◌∙◌, subst, slice_get, if◌then◌else◌}
+use Rattle.std.proofs.Common.{◌≡◌, ℕ, zero, suc, ℤ, pos, ◌≤ℤ◌, inl, inr, List, [], ◌∷◌, ◌++◌, map, Option, IsSome, Some, None, unwrap_or, refl, sym, ap, subst, slice_get}
 use Rattle.cc_base.specs.declared.cells.CellTy.{CellTy}
 use Rattle.cc_base.specs.declared.cells.CellTy.TheVariants as cell
 use Rattle.cc_base.specs.declared.forms.Multiple.{Multiple}
 use Rattle.cc_base.specs.declared.inputs.Input.{Input}
-use Rattle.cc_base.specs.Forms.{Form, Atom, at_most_zero, is_zero, not_zero, same, differ}
-use Rattle.cc_base.specs.Groups.{form_of, named, put, contains}
+use Rattle.cc_base.specs.Forms.{Atom, at_most_zero, is_zero, not_zero, same, differ}
+use Rattle.cc_base.specs.Groups.{form_of, named}
 use Rattle.cc_base.specs.Holds.{AllValued, places_of_atom, or_zero, Holds, Meets}
 use Rattle.cc_base.specs.Limits.{Limits, base_of}
 use Rattle.cc_base.specs.Paths.{In}
 use Rattle.cc_base.specs.Places.{Place, Placed, arg, field, stream}
 use Rattle.cc_model.specs.Canonical.{Within}
-use Rattle.cc_model.specs.Conditions.{outcomes_of, events_of, places_of, values_at}
+use Rattle.cc_model.specs.Conditions.{events_of, places_of, values_at}
 use Rattle.cc_model.specs.Core.{Program}
 use Rattle.cc_model.specs.Graphs.{PointsToCells}
 use Rattle.cc_model.specs.Meaning.{Entry}
 use Rattle.cc_model.specs.Runs.{IsInput, params_of}
-use Rattle.cc_model.specs.Traced.{Choice, Event}
+use Rattle.cc_model.specs.Traced.{Event}
 use Rattle.cc_laws.specs.LinearForms.{linear}
 use Rattle.sym_run.specs.Placing.{NamesAtom, NameAtoms, IsNumberAt}
 use Rattle.run_laws.specs.Lawful.{Lawful, StandsRight}

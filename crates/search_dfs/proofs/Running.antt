@@ -1,22 +1,19 @@
 -- The loop as a whole.
-use Rattle.std.proofs.Common.{take, ◌≡◌, ◌≢◌, ℕ, zero, suc, ◌+◌, ◌<◌, ◌≤◌, Bool, true, false, ◌⊎◌, ◌↔◌, inl, inr, List, [], ◌∷◌, ◌++◌, length, Option, Some, None, refl, sym, ap, ap₂, ◌∙◌, subst, arith, append_assoc}
+use Rattle.std.proofs.Common.{◌≡◌, ℕ, ◌≤◌, Bool, true, false, List, [], ◌∷◌, ◌++◌, length, Option, None, refl, sym, ap, ◌∙◌, subst, arith, append_assoc}
 use Rattle.cc_base.specs.declared.outcomes.Outcome.{Outcome}
-use Rattle.cc_base.specs.Paths.{Path, In, Pairwise}
+use Rattle.cc_base.specs.Paths.{Path}
 use Rattle.search_dfs.specs.Laws.{Laws}
-use Rattle.cc_model.specs.Listing.{Item, Sound, Licensed, Covered}
-use Rattle.search_dfs.specs.Search.{State, below, Search, start, Searched, cut_below}
+use Rattle.search_dfs.specs.Search.{State, below, start, cut_below}
 use Rattle.search_dfs.proofs.Searched.{search_sound}
 use Rattle.search_dfs.proofs.Whole.{search_licensed, search_covered}
 use Rattle.search_dfs.specs.Setting.{Setting}
 use Rattle.search_dfs.specs.declared.open.Pending.{Pending}
 use Rattle.search_dfs.specs.declared.open.Open.{Open}
-use Rattle.search_dfs.specs.Setting.{layer_of, base_of, within_of, path_of, others_of, TraceOf}
-use Rattle.search_dfs.specs.Stack.{levels}
+use Rattle.search_dfs.specs.Setting.{layer_of, base_of}
 use Rattle.search_dfs.proofs.Outputs.{wrote_more, some_more, some_none}
-use Rattle.search_dfs.specs.Stack.{Does, Rest, Under, path_of_run, left_at, Levels}
-use Rattle.search_dfs.specs.Turns.{levels_of, runs_of, Begins, Fits_open, Ready, Matches, UnderOf, Went, WentSome, Turn, TurnSome, Stopped_at}
-use Rattle.search_dfs.specs.Output.{Items, Out, Wrote, WroteSome}
-use Rattle.path_tree.specs.Branches.{Branches}
+use Rattle.search_dfs.specs.Stack.{Does, Rest, Under, left_at, Levels}
+use Rattle.search_dfs.specs.Turns.{levels_of, runs_of, Begins, Ready, UnderOf, Went, WentSome, Turn, TurnSome, Stopped_at}
+use Rattle.search_dfs.specs.Output.{Items, Out}
 use Rattle.search_dfs.specs.Whole.{Listed_whole, Listed_part, Running}
 
 module _ (p : Setting) (laws : Laws (layer_of p)) (after : Option Path) (limit : ℕ) where

@@ -1,5 +1,5 @@
 -- The laws of the search, from those of runs.
-use Rattle.std.proofs.Common.{◌≡◌, ℕ, ◌<◌, ◌≤◌, sym}
+use Rattle.std.proofs.Common.{◌≡◌, ℕ, ◌<◌, ◌≤◌}
 use Rattle.cc_base.specs.declared.inputs.Input.{Input}
 use Rattle.cc_base.specs.Limits.{Limits, InRange}
 use Rattle.cc_base.specs.Paths.{GoesOnFrom}

@@ -1,26 +1,22 @@
 -- One outcome is tried.
-use Rattle.std.proofs.Common.{take, ◌≡◌, ◌≢◌, ℕ, zero, suc, ◌+◌, ◌-◌, ◌*◌, ◌<◌, ◌≤◌, Bool, true, false, ◌⊎◌, ◌↔◌, inl, inr, List, [], ◌∷◌, ◌++◌, length, Option, Some, None, refl, sym, ap, ap₂, ◌∙◌, subst, arith, append_assoc, length-append, nat_eq, if◌then◌else◌}
+use Rattle.std.proofs.Common.{take, ◌≡◌, ◌≢◌, ℕ, zero, suc, ◌+◌, ◌-◌, ◌*◌, ◌<◌, ◌≤◌, Bool, true, false, inl, inr, List, [], ◌∷◌, ◌++◌, length, Option, Some, None, refl, sym, ap, ◌∙◌, subst, arith, length-append, if◌then◌else◌}
 use Rattle.std.proofs.lemmas.Bool.Decides.{eqb_tells}
 use Rattle.cc_base.specs.declared.outcomes.Outcome.{Outcome}
 use Rattle.cc_base.specs.Paths.{Path, In, next, BeginsWith}
-use Rattle.cc_model.specs.Tested.{Layer, Offers, never, spent, turned}
-use Rattle.search_dfs.specs.Laws.{Laws}
-use Rattle.cc_model.specs.Listing.{Item, test_item, past_item, stray_item, spent_item, unrun_item, Above, NotAbove, PassedOver, Reached}
-use Rattle.search_dfs.specs.Search.{State, test_of, Job, via, Asked, Turns, stopped, passed, never_one, spent_one, unrun_one, stray_one}
+use Rattle.cc_model.specs.Tested.{Offers, never, spent, turned}
+use Rattle.cc_model.specs.Listing.{stray_item, spent_item, unrun_item, PassedOver, Reached}
+use Rattle.search_dfs.specs.Search.{State, test_of, via, Asked, Turns, stopped, passed, never_one, spent_one, unrun_one, stray_one}
 use Rattle.search_dfs.specs.Setting.{Setting}
 use Rattle.cc_base.specs.declared.inputs.Input.{Input}
 use Rattle.search_dfs.specs.declared.open.Pending.{Pending}
 use Rattle.search_dfs.specs.declared.open.Open.{Open}
-use Rattle.search_dfs.specs.Setting.{layer_of, TraceOf, ChoicesOf, own_at, others_of, path_of, within_of, meets_of}
-use Rattle.search_dfs.specs.Stack.{levels}
-use Rattle.search_dfs.specs.Stack.{last_first, left_at, path_of_run, Level, Levels, Does, Rest, Under}
-use Rattle.search_dfs.specs.Turns.{levels_of, runs_of, Fits_open, Ready, Taken, Matches, Stopped_at, UnderOf, Went, WentSome, Turn, TurnSome, weight, cost}
+use Rattle.search_dfs.specs.Setting.{layer_of, TraceOf, own_at, others_of, path_of, within_of, meets_of}
+use Rattle.search_dfs.specs.Stack.{last_first, left_at, path_of_run, Levels, Does, Rest}
+use Rattle.search_dfs.specs.Turns.{levels_of, runs_of, Ready, Taken, Matches, Stopped_at, UnderOf, Went, WentSome, Turn, TurnSome, weight, cost}
 use Rattle.search_dfs.specs.Output.{Items, Out, Wrote, WroteSome}
 use Rattle.path_tree.specs.Branches.{Branches}
 use Rattle.search_dfs.proofs.Outputs.{some_none}
 use Rattle.search_dfs.proofs.Loop.{one, own, entered, cut_off, first_own, begins_first, length_first}
-use Rattle.search_dfs.proofs.Down.{last_is, snoc_first}
-use Rattle.std.proofs.Common.{get_or}
 use Rattle.search_dfs.specs.Setting.{Answered}
 use Rattle.flip_solve.specs.declared.flipping.Turned.{Turned}
 
@@ -178,7 +174,7 @@ module _ (p : Setting) (after : Option Path) (limit : ℕ) where
         )
 
         -- the new run keeps its prediction, and is gone into
-        module _ (b2 : Open) (v : Pending) (vi : (v.trace).input ≡ i) (fr : v.from ≡ suc (length ls)) (vt : TraceOf p v.trace v.path) (bg : BeginsWith (path_of_run v) (next q o))
+        module _ (b2 : Open) (v : Pending) (vi : (v.trace).input ≡ i) (fr : v.from ≡ suc (length ls)) (vt : TraceOf p v.from v.trace v.path) (bg : BeginsWith (path_of_run v) (next q o))
             (lt : b.made < limit) (bt : b2.tree ≡ b.tree) (bd : b2.depth ≡ b.depth) (bm : b2.made ≡ b.made + 1) (bs : b2.stopped ≡ b.stopped) (br : runs_of b2 ≡ v ∷ r ∷ rs) where
           levels2 : levels_of b2 ≡ os ∷ ls
           levels2 = ap (λ (t : Branches). t.levels) bt ∙ T.now
@@ -284,6 +280,9 @@ module _ (p : Setting) (after : Option Path) (limit : ℕ) where
 module _ (p : Setting) (b : Open) (o : Outcome) (os : List Outcome) (ls : List (List Outcome)) (r : Pending) (rs : List Pending) (T : Taken p b o os ls r rs) where
   pub depth_is : b.depth - 1 ≡ length ls
   depth_is = let d = T.depth in omega (arith, d)
+
+  pub entered_before : r.from ≤ b.depth - 1
+  entered_before = let d = depth_is in let f = (T.level).from in omega (arith, d, f)
 
   pub in_prefix : b.depth - 1 < length (path_of_run r)
   in_prefix = let d = depth_is in let e = (T.level).event in omega (arith, d, e)

@@ -72,13 +72,13 @@ terms_along c (a ∷ l) ts h = by (a.event).asked refl ts h (λ us k. terms_alon
     by (one_of cs) e us h rest = rest us (moved (one_of cs) e us h)
 
 module _ (c : Checked) (b : Limits) (h : Input) (t : Trace) where
-  pub tells : IsTrace c b h t → map outcome_at t.events ≡ path_at (core_of c) b h → t.end ≡ end_at (core_of c) b h → ((k : ℕ) (e : Event) → slice_get t.events k ≡ Some e → OffersFew e) → All HasByte (map outcome_at t.events) → Tells c b h t
+  pub tells : IsTrace c b h t → map outcome_at t.events ≡ path_at (core_of c) b h → t.end ≡ end_at (core_of c) b h → ((k : ℕ) (e : Event) → slice_get t.events k ≡ Some e → OffersFew e) → All HasByte (map outcome_at t.events) → Tells 0 c b h t
   tells it path end few bytes = record {
     input = it.input;
     path = path;
-    others = λ k e at. others_along c (events_of linear (core_of c) b h) t.events k e it.events at;
+    others = λ k e le at. others_along c (events_of linear (core_of c) b h) t.events k e it.events at;
     end = end;
     terms = terms_along c (events_of linear (core_of c) b h) t.terms it.terms;
-    few = few;
+    few = λ k e le at. few k e at;
     bytes = bytes;
   }

@@ -1,12 +1,12 @@
 -- The terms that are found.
-use Rattle.std.proofs.Common.{◌≡◌, ℕ, zero, suc, ◌+◌, ◌<◌, ◌≤◌, ◌⊎◌, ◌↔◌, ◌||◌, Bool, true, false, inl, inr, List, [], ◌∷◌, ◌++◌, length, map, take, drop, Some, slice_get, ◌≢◌, if◌then◌else◌, refl, sym, ap, ◌∙◌, subst, arith, get_or, insert, append-nil}
+use Rattle.std.proofs.Common.{◌≡◌, ℕ, zero, suc, ◌+◌, ◌<◌, ◌≤◌, ◌⊎◌, ◌↔◌, ◌||◌, Bool, true, false, inl, inr, List, [], ◌∷◌, length, map, take, drop, Some, slice_get, ◌≢◌, if◌then◌else◌, refl, sym, ap, ◌∙◌, subst, arith, get_or, insert}
 use Rattle.cc_base.specs.declared.inputs.Test.{Test}
 use Rattle.cc_base.specs.Paths.{In, Path, Pairwise}
 use Rattle.cc_base.specs.declared.inputs.Input.{Input}
 use Rattle.cc_model.specs.declared.terms.TermKind.{TermKind}
 use Rattle.cc_model.specs.declared.terms.TermKind.TheVariants.{Product, Quotient, Index, Wide}
 use Rattle.cc_model.specs.Listing.{Item, test_item, past_item, stray_item, spent_item, unrun_item, WasRun, at_steps}
-use Rattle.cc_model.specs.Report.{is_fault, has_fault}
+use Rattle.cc_model.specs.Report.{is_fault}
 use Rattle.cc_model.specs.Tested.{Term}
 use Rattle.cc_model.specs.declared.checked.Site.{Site}
 use Rattle.cc_laws.proofs.Members.{is_same, not_same}
@@ -322,6 +322,6 @@ pub found_all : (f : RunTerm → Term) (l : List RunTerm) (n : ℕ) (first now :
 found_all f l n first now h k y = subst (λ m. In y (map seen_term now) ↔ (In y (map seen_term first) ⊎ In y (map f m))) (take_whole l n h) (k y)
 
 -- the terms of a run are those of its trace
-pub run_terms : (s : Setting) (t : Trace) (q : Path) → TraceOf s t q → map (found_at s.checked) t.terms ≡ (layer_of s).terms t.input
+pub run_terms : (s : Setting) (n : ℕ) (t : Trace) (q : Path) → TraceOf s n t q → map (found_at s.checked) t.terms ≡ (layer_of s).terms t.input
 unfolding layer_of
-run_terms s t q tr = (tr.trace).terms
+run_terms s n t q tr = (tr.trace).terms

@@ -1,5 +1,5 @@
 -- An outcome that is tried, in the words of the code.
-use Rattle.std.proofs.Common.{◌≡◌, ◌≢◌, ◌-◌, ◌<◌, ◌≤◌, ℕ, true, false, List, [], ◌∷◌, length, take, Option, All, refl, sym, ap, ◌∙◌, subst}
+use Rattle.std.proofs.Common.{◌≡◌, ◌≢◌, ◌-◌, ℕ, true, false, List, [], ◌∷◌, length, take, Option, All, refl, sym, ap, ◌∙◌, subst}
 use Rattle.cc_base.specs.declared.outcomes.Outcome.{Outcome}
 use Rattle.cc_base.specs.Outcomes.{HasByte}
 use Rattle.cc_base.specs.Paths.{Path, next}
@@ -9,10 +9,10 @@ use Rattle.search_dfs.specs.declared.open.Pending.{Pending}
 use Rattle.search_dfs.specs.Output.{Out}
 use Rattle.search_dfs.specs.Setting.{Setting, own_at}
 use Rattle.search_dfs.specs.Stack.{path_of_run}
-use Rattle.search_dfs.specs.Turns.{Taken, Ready, Went, WentSome, Turn, TurnSome, Solving}
+use Rattle.search_dfs.specs.Turns.{Taken, Went, WentSome, Turn, TurnSome, Solving}
 use Rattle.search_dfs.proofs.Choices.{prefix_bytes}
 use Rattle.search_dfs.proofs.Outputs.{wrote_none}
-use Rattle.search_dfs.proofs.Step.{settled, refused_turn, by_stop, by_pass, ready_mine, turn_mine, some_mine, in_prefix, own_is, prefix_is, offered_at}
+use Rattle.search_dfs.proofs.Step.{entered_before, settled, refused_turn, by_stop, by_pass, turn_mine, some_mine, in_prefix, own_is, prefix_is, offered_at}
 
 module _ (p : Setting) (after : Option Path) (limit : ℕ) (b : Open) (o : Outcome) (os : List Outcome) (ls : List (List Outcome)) (r : Pending) (rs : List Pending) (T : Taken p b o os ls r rs)
     (x : Pending) (e : x ≡ r) where
@@ -57,5 +57,5 @@ module _ (p : Setting) (after : Option Path) (limit : ℕ) (b : Open) (o : Outco
           prefix = prefix_here;
           reached = h;
           bytes = subst (All HasByte) (sym (k ∙ ap (λ y. next (take (b.depth - 1) (path_of_run y)) o) e))
-              (prefix_bytes p r.trace r.path (T.level).trace (b.depth - 1) o (in_prefix p b o os ls r rs T) (offered_at p b o os ls r rs T other));
+              (prefix_bytes p r.from r.trace r.path (T.level).trace (b.depth - 1) o (entered_before p b o os ls r rs T) (in_prefix p b o os ls r rs T) (offered_at p b o os ls r rs T other));
         }

@@ -1,5 +1,5 @@
 -- What the search takes from a traced run.
-use Rattle.std.specs.Prelude.{ℕ, ◌≡◌, List, [], ◌∷◌, map, option_map, unwrap_or, Some, slice_get, All, nat_eq, if◌then◌else◌}
+use Rattle.std.specs.Prelude.{ℕ, ◌≡◌, ◌≤◌, List, [], ◌∷◌, map, option_map, unwrap_or, Some, slice_get, All, nat_eq, if◌then◌else◌}
 use Rattle.cc_base.specs.declared.inputs.Input.{Input}
 use Rattle.cc_base.specs.Limits.{Limits}
 use Rattle.cc_base.specs.Outcomes.{HasByte}
@@ -28,12 +28,13 @@ token_in sites i = unwrap_or (option_map (λ x. x.token) (slice_get sites i)) 0
 abbrev pub found_at : Checked → Term → Found
 found_at c t = record { line = (core_of c).line (token_in c.sites (t.site).0); col = column_in c.sites (token_in c.sites (t.site).0); kind = t.kind }
 
--- the trace tells of the traced run of the checked program on the input, within the bounds
-pub record Tells (c : Checked) (b : Limits) (h : Input) (t : Trace) : Type 0 where
+-- the trace tells of the traced run of the checked program on the input, within the bounds; what the first n events offer may be
+-- missing
+pub record Tells (n : ℕ) (c : Checked) (b : Limits) (h : Input) (t : Trace) : Type 0 where
   pub input : t.input ≡ h
   pub path : map outcome_at t.events ≡ path_at (core_of c) b h
-  pub others : (k : ℕ) (e : Event) → slice_get t.events k ≡ Some e → others_at e ≡ map (λ x. x.outcome) (alternatives_at k (events_of linear (core_of c) b h))
+  pub others : (k : ℕ) (e : Event) → n ≤ k → slice_get t.events k ≡ Some e → others_at e ≡ map (λ x. x.outcome) (alternatives_at k (events_of linear (core_of c) b h))
   pub end : t.end ≡ end_at (core_of c) b h
   pub terms : map (found_at c) t.terms ≡ terms (core_of c).line (column_in c.sites) (events_of linear (core_of c) b h)
-  pub few : (k : ℕ) (e : Event) → slice_get t.events k ≡ Some e → OffersFew e
+  pub few : (k : ℕ) (e : Event) → n ≤ k → slice_get t.events k ≡ Some e → OffersFew e
   pub bytes : All HasByte (map outcome_at t.events)

@@ -12,7 +12,7 @@ use Rattle.cc_model.specs.Conditions.{layer}
 use Rattle.cc_model.specs.Tested.{Layer, never, spent, turned}
 use Rattle.cc_laws.specs.LinearForms.{linear}
 use Rattle.sym_run.specs.declared.trace.Trace.{Trace}
-use Rattle.sym_run.specs.Traces.{IsTrace}
+use Rattle.flip_solve.specs.Needed.{IsTraceFrom}
 use Rattle.flip_solve.specs.declared.flipping.Turned as answer
 use Rattle.flip_solve.specs.declared.flipping.Turned.TheVariants as turn
 use Rattle.search_dfs.specs.Below.{Tells, column_in}
@@ -42,11 +42,11 @@ pub record ChoicesOf (s : Setting) (i : Input) (k : ℕ) (os : List Outcome) : T
   pub all : (o : Outcome) → In o os ↔ ((o ≡ own_at k (((layer_of s).runs).path i)) ⊎ In o ((layer_of s).others i k))
   pub few : length os ≤ 29
 
--- a run within the bounds, with its path
-pub record TraceOf (s : Setting) (t : Trace) (p : Path) : Type 0 where
+-- a run within the bounds, with its path; what its first n events offer may be missing
+pub record TraceOf (s : Setting) (n : ℕ) (t : Trace) (p : Path) : Type 0 where
   pub within : ((layer_of s).runs).IsWithin t.input
-  pub is_trace : IsTrace s.checked s.limits t.input t
-  pub trace : Tells s.checked s.limits t.input t
+  pub is_trace : IsTraceFrom n s.checked s.limits t.input t
+  pub trace : Tells n s.checked s.limits t.input t
   pub path : p ≡ ((layer_of s).runs).path t.input
   pub end : t.end ≡ ((layer_of s).runs).end t.input
   pub short : length p ≤ s.limits.depth

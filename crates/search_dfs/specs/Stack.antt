@@ -1,9 +1,9 @@
 -- What a stack of levels and runs still owes to the search.
-use Rattle.std.specs.Prelude.{ℕ, zero, suc, ◌+◌, ◌<◌, ◌≤◌, ◌≡◌, ◌≢◌, ◌⊎◌, ◌↔◌, Bool, true, false, List, [], ◌∷◌, ◌++◌, length, Option, Some, None, nat_eq, take, if◌then◌else◌}
+use Rattle.std.specs.Prelude.{ℕ, ◌<◌, ◌≤◌, ◌≡◌, ◌⊎◌, Bool, List, [], ◌∷◌, ◌++◌, length, Option, nat_eq, take, if◌then◌else◌}
 use Rattle.cc_base.specs.declared.outcomes.Outcome.{Outcome}
 use Rattle.cc_base.specs.Paths.{Path, In}
 use Rattle.cc_model.specs.Listing.{Item}
-use Rattle.search_dfs.specs.Search.{State, Job, below, among, via, Search}
+use Rattle.search_dfs.specs.Search.{State, Job, below, among, Search}
 use Rattle.search_dfs.specs.Setting.{Setting}
 use Rattle.search_dfs.specs.declared.open.Pending.{Pending}
 use Rattle.search_dfs.specs.Setting.{layer_of, TraceOf, own_at, others_of}
@@ -26,7 +26,7 @@ path_of_run r = r.path
 
 -- the level after k levels belongs to the run, and these of its outcomes are unsettled
 pub record Level (p : Setting) (r : Pending) (k : ℕ) (os : List Outcome) : Type 0 where
-  pub trace : TraceOf p r.trace r.path
+  pub trace : TraceOf p r.from r.trace r.path
   pub event : k < length (path_of_run r)
   pub from : r.from ≤ k
   pub open_ones : (o : Outcome) → In o os → (o ≡ own_at k (path_of_run r)) ⊎ In o (others_of p (r.trace).input k)

@@ -1,22 +1,21 @@
 -- What one turn of the loop does.
-use Rattle.std.specs.Prelude.{ℕ, zero, suc, ◌+◌, ◌-◌, ◌*◌, ◌^◌, ◌<◌, ◌≤◌, ◌≡◌, ◌≢◌, ◌⊎◌, ◌↔◌, Bool, true, false, List, [], ◌∷◌, ◌++◌, length, Option, Some, None, nat_eq, take, if◌then◌else◌, All}
+use Rattle.std.specs.Prelude.{ℕ, zero, suc, ◌+◌, ◌-◌, ◌*◌, ◌^◌, ◌<◌, ◌≤◌, ◌≡◌, ◌≢◌, Bool, true, false, List, [], ◌∷◌, ◌++◌, length, Option, Some, None, take, All}
 use Rattle.cc_base.specs.declared.outcomes.Outcome.{Outcome}
 use Rattle.cc_base.specs.Outcomes.{HasByte}
-use Rattle.cc_base.specs.Paths.{Path, In, next}
+use Rattle.cc_base.specs.Paths.{Path, next}
 use Rattle.cc_base.specs.declared.inputs.Test.{Test}
 use Rattle.cc_model.specs.Listing.{Item, test_item, past_item, Above, NotAbove, Reached}
 use Rattle.cc_outside.specs.Faults.{Rose}
 use Rattle.search_dfs.specs.declared.fault.SearchFault.{SearchFault}
 use Rattle.search_dfs.specs.declared.fault.SearchFault.TheVariants as fault
-use Rattle.search_dfs.specs.Search.{State, Job, below, among, via, Search}
+use Rattle.search_dfs.specs.Search.{State}
 use Rattle.search_dfs.specs.Setting.{Setting}
 use Rattle.search_dfs.specs.declared.open.Pending.{Pending}
 use Rattle.search_dfs.specs.declared.open.Open.{Open}
 use Rattle.cc_base.specs.declared.inputs.Input.{Input}
 use Rattle.cc_model.specs.Tested.{turned}
-use Rattle.search_dfs.specs.Setting.{layer_of, TraceOf, own_at, others_of, within_of, meets_of, base_of}
+use Rattle.search_dfs.specs.Setting.{layer_of, TraceOf, own_at, within_of, meets_of, base_of}
 use Rattle.search_dfs.specs.Output.{Items, Out, Wrote, WroteSome}
-use Rattle.path_tree.specs.Branches.{Branches}
 use Rattle.search_dfs.specs.Stack.{levels}
 use Rattle.search_dfs.specs.Stack.{last_first, left_at, path_of_run, Level, Levels, Rest, Under}
 
@@ -35,7 +34,7 @@ pub record Fits_open (p : Setting) (b : Open) : Type 0 where
 -- the last run is still to be gone into below the levels
 pub record Ready (p : Setting) (b : Open) (r : Pending) (rs : List Pending) : Type 0 where
   pub runs : runs_of b ≡ r ∷ rs
-  pub trace : TraceOf p r.trace r.path
+  pub trace : TraceOf p r.from r.trace r.path
   pub from : r.from ≤ b.depth
   pub short : b.depth ≤ length (path_of_run r)
   pub most : (b.tree).most ≡ p.limits.depth + 1
@@ -57,7 +56,7 @@ pub record Begins (p : Setting) (b : Open) (v : Pending) : Type 0 where
   pub depth : b.depth ≡ 0
   pub runs : runs_of b ≡ v ∷ []
   pub from : v.from ≡ 0
-  pub trace : TraceOf p v.trace v.path
+  pub trace : TraceOf p v.from v.trace v.path
   pub most : (b.tree).most ≡ p.limits.depth + 1
   pub base : (v.trace).input ≡ base_of p
   pub made : b.made ≡ 1

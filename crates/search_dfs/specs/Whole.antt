@@ -1,10 +1,8 @@
 -- What the search as a whole owes.
-use Rattle.std.specs.Prelude.{ℕ, zero, suc, ◌+◌, ◌<◌, ◌≤◌, ◌≡◌, ◌⊎◌, ◌↔◌, Bool, true, false, List, [], ◌∷◌, ◌++◌, length, Option, Some, None}
+use Rattle.std.specs.Prelude.{ℕ, ◌↔◌, Bool, List, [], ◌++◌, Option}
 use Rattle.cc_base.specs.Paths.{Path, In, Pairwise}
-use Rattle.cc_model.specs.Tested.{Layer, Offers, never, spent, turned}
-use Rattle.search_dfs.specs.Laws.{Laws}
-use Rattle.cc_model.specs.Listing.{Item, Listing, Sound, Licensed, Covered}
-use Rattle.search_dfs.specs.Search.{State, below, Search, start}
+use Rattle.cc_model.specs.Listing.{Sound, Licensed, Covered}
+use Rattle.search_dfs.specs.Search.{State, below, start}
 use Rattle.search_dfs.specs.Setting.{Setting}
 use Rattle.search_dfs.specs.declared.open.Open.{Open}
 use Rattle.search_dfs.specs.Setting.{layer_of, base_of}

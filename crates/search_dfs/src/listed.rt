@@ -24,7 +24,7 @@ fn list_test<K: Sink>(
     sink: &mut K,
     tally: &mut Tally,
 ) -> Result<(), SearchFault>
-    requires { TraceOf (setting_of task.now) (run.now).trace (run.now).path }
+    requires { TraceOf (setting_of task.now) (run.now).from (run.now).trace (run.now).path }
     ensures ok { OnOk result (Wrote (setting_of task.now) (test_item (test_at run.now) ∷ []) (told (K.written sink.old) (K.faults sink.old) tally.old) (told (K.written sink.new) (K.faults sink.new) tally.new)) }
     ensures err { OnErr result (WroteSome (setting_of task.now) (test_item (test_at run.now) ∷ []) (told (K.written sink.old) (K.faults sink.old) tally.old) (told (K.written sink.new) (K.faults sink.new) tally.new)) }
     ensures sink { IfErr result (λ e. SinkCause (K.faults sink.old) (K.faults sink.new) e) }
@@ -42,7 +42,7 @@ fn list_past<K: Sink>(
     sink: &mut K,
     tally: &mut Tally,
 ) -> Result<(), SearchFault>
-    requires { TraceOf (setting_of task.now) (run.now).trace (run.now).path }
+    requires { TraceOf (setting_of task.now) (run.now).from (run.now).trace (run.now).path }
     ensures ok { OnOk result (Wrote (setting_of task.now) (past_item (test_at run.now) ∷ []) (told (K.written sink.old) (K.faults sink.old) tally.old) (told (K.written sink.new) (K.faults sink.new) tally.new)) }
     ensures err { OnErr result (WroteSome (setting_of task.now) (past_item (test_at run.now) ∷ []) (told (K.written sink.old) (K.faults sink.old) tally.old) (told (K.written sink.new) (K.faults sink.new) tally.new)) }
     ensures sink { IfErr result (λ e. SinkCause (K.faults sink.old) (K.faults sink.new) e) }
@@ -60,7 +60,7 @@ pub(crate) fn list_run<K: Sink>(
     sink: &mut K,
     tally: &mut Tally,
 ) -> Result<(), SearchFault>
-    requires { TraceOf (setting_of task.now) (run.now).trace (run.now).path }
+    requires { TraceOf (setting_of task.now) (run.now).from (run.now).trace (run.now).path }
     ensures ok { OnOk result (Ended (setting_of task.now) (after_of task.now) (test_at run.now) (told (K.written sink.old) (K.faults sink.old) tally.old) (told (K.written sink.new) (K.faults sink.new) tally.new)) }
     ensures err { OnErr result (EndedSome (setting_of task.now) (after_of task.now) (test_at run.now) (told (K.written sink.old) (K.faults sink.old) tally.old) (told (K.written sink.new) (K.faults sink.new) tally.new)) }
     ensures sink { IfErr result (λ e. SinkCause (K.faults sink.old) (K.faults sink.new) e) }
@@ -82,7 +82,7 @@ pub(crate) fn list_stray<K: Sink>(
     sink: &mut K,
     tally: &mut Tally,
 ) -> Result<(), SearchFault>
-    requires trace { TraceOf (setting_of task.now) (run.now).trace (run.now).path }
+    requires trace { TraceOf (setting_of task.now) (run.now).from (run.now).trace (run.now).path }
     requires prefix { All HasByte prefix.now }
     ensures ok { OnOk result (Wrote (setting_of task.now) (stray_item (test_at run.now) prefix.now ∷ []) (told (K.written sink.old) (K.faults sink.old) tally.old) (told (K.written sink.new) (K.faults sink.new) tally.new)) }
     ensures err { OnErr result (WroteSome (setting_of task.now) (stray_item (test_at run.now) prefix.now ∷ []) (told (K.written sink.old) (K.faults sink.old) tally.old) (told (K.written sink.new) (K.faults sink.new) tally.new)) }

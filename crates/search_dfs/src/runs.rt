@@ -1,11 +1,12 @@
 //! The runs that a search keeps.
 
-ghost use Rattle.std.specs.Prelude.{◌≡◌, ◌<◌, ◌≤◌, ◌⊎◌, ◌↔◌, ◌^◌, ◌∷◌, List, length, map, IfOk};
+ghost use Rattle.std.specs.Prelude.{◌≡◌, ◌<◌, ◌≤◌, ◌⊎◌, ◌↔◌, ◌^◌, ◌∷◌, [], List, length, map, IfOk};
 ghost use Rattle.cc_base.specs.declared.outcomes.Outcome.{Outcome as PlainOutcome};
 ghost use Rattle.cc_base.specs.Outcomes.{byte_of};
 ghost use Rattle.cc_base.specs.Paths.{In, Ascend};
 ghost use Rattle.search_dfs.specs.declared.open.Pending.{Pending as Kept};
 ghost use Rattle.sym_run.specs.Traces.{OffersFew, outcome_at, others_at};
+ghost use Rattle.flip_solve.specs.Needed.{bare_first};
 ghost use Rattle.search_dfs.specs.Inserting.{IsPlace};
 ghost use Rattle.search_dfs.specs.Setting.{TraceOf, ChoicesOf, own_at, within_of};
 ghost use Rattle.search_dfs.specs.Stack.{last_first, left_at};
@@ -16,7 +17,7 @@ use crate::order::byte;
 use crate::task::Task;
 use cc_model::base::{Input, Items, NoMemory, Outcome};
 use std::alloc::Global;
-use sym_run::{Choice, Event, run};
+use sym_run::{Choice, Event, Trace, run};
 
 /// The last run.
 pub(crate) fn last_run(runs: &Items<Pending>) -> &Pending
@@ -84,7 +85,8 @@ fn all_outcomes(alloc: Global, event: &Event) -> Result<Items<Outcome>, NoMemory
 
 /// The outcomes of event k of a run: its own and the alternatives, ascending.
 pub(crate) fn choices_of(task: &Task<'_>, run: &Pending, k: u32) -> Result<Items<Outcome>, NoMemory>
-    requires trace { TraceOf (setting_of task.now) (run.now).trace (run.now).path }
+    requires trace { TraceOf (setting_of task.now) (run.now).from (run.now).trace (run.now).path }
+    requires entered { (run.now).from ≤ k }
     requires event { k < length (run.now).path }
     ensures { IfOk result (λ v. ChoicesOf (setting_of task.now) ((run.now).trace).input k v) }
 {
@@ -92,17 +94,79 @@ pub(crate) fn choices_of(task: &Task<'_>, run: &Pending, k: u32) -> Result<Items
     Ok(all)
 }
 
-/// A new run on an input, entered at this depth.
+/// An event without its alternatives.
+fn bare(alloc: Global, event: Event) -> Event
+    ensures { result ≡ record event { others = [] } }
+{
+    let Event {
+        site,
+        taken,
+        places,
+        ..
+    } = event;
+    Event {
+        site,
+        taken,
+        others: Items::new(alloc),
+        places,
+    }
+}
+
+/// Events, the first `number` of them without their alternatives.
+fn bare_first(
+    alloc: Global,
+    mut events: Items<Event>,
+    number: u32,
+) -> Result<Items<Event>, NoMemory>
+    ensures { IfOk result (λ l. l ≡ bare_first number events) }
+{
+    let mut kept = Vec::new(alloc);
+    'events: while let Some(event) = events.pop() {
+        if events.len() < number as usize {
+            kept.push(bare(alloc, event))?;
+        } else {
+            kept.push(event)?;
+        }
+    }
+    kept.reverse();
+    Ok(Items::from_vec(kept))
+}
+
+/// A trace, its first `number` events without their alternatives.
+fn bare_trace(alloc: Global, trace: Trace, number: u32) -> Result<Trace, NoMemory>
+    ensures { IfOk result (λ t. t ≡ record trace { events = bare_first number trace.events }) }
+{
+    let Trace {
+        input,
+        events,
+        places,
+        end,
+        clean_to,
+        terms,
+    } = trace;
+    let events = bare_first(alloc, events, number)?;
+    Ok(Trace {
+        input,
+        events,
+        places,
+        end,
+        clean_to,
+        terms,
+    })
+}
+
+/// A new run on an input, entered at this depth. It keeps no alternatives of earlier events.
 pub(crate) fn made_run(task: &Task<'_>, input: &Input, from: u32) -> Result<Pending, NoMemory>
     requires known { Known task.now }
     requires within { within_of (setting_of task.now) input.now }
     requires few { length (input.now).cells < 10 ^ 18 }
-    ensures trace { IfOk result (λ r. TraceOf (setting_of task.now) r.trace r.path) }
+    ensures trace { IfOk result (λ r. TraceOf (setting_of task.now) r.from r.trace r.path) }
     ensures input { IfOk result (λ r. (r.trace).input ≡ input.now) }
     ensures from { IfOk result (λ r. r.from ≡ from) }
 {
     let _depth = task.bounds.depth();
     let trace = run(task.alloc, task.checked, task.tac, input, task.bounds)?;
     let path = trace.path(task.alloc)?;
+    let trace = bare_trace(task.alloc, trace, from)?;
     Ok(Pending { trace, path, from })
 }

@@ -213,7 +213,7 @@ impl Tally {
 
     /// Counts a run that is listed as a test.
     pub(crate) fn count_test(&mut self, task: &Task<'_>, run: &Pending) -> Result<(), NoMemory>
-        requires { TraceOf (setting_of task.now) (run.now).trace (run.now).path }
+        requires { TraceOf (setting_of task.now) (run.now).from (run.now).trace (run.now).path }
         ensures { OnOk result (Tallied (setting_of task.now) (test_item (test_at run.now) ∷ []) self.old self.new) }
     {
         add_terms(task.checked, run.trace.terms.as_slice(), &mut self.terms)?;
@@ -230,7 +230,7 @@ impl Tally {
 
     /// Counts a run that is listed as a past one.
     pub(crate) fn count_past(&mut self, task: &Task<'_>, run: &Pending) -> Result<(), NoMemory>
-        requires { TraceOf (setting_of task.now) (run.now).trace (run.now).path }
+        requires { TraceOf (setting_of task.now) (run.now).from (run.now).trace (run.now).path }
         ensures { OnOk result (Tallied (setting_of task.now) (past_item (test_at run.now) ∷ []) self.old self.new) }
     {
         add_terms(task.checked, run.trace.terms.as_slice(), &mut self.terms)?;
@@ -241,7 +241,7 @@ impl Tally {
 
     /// Counts a run that left its prediction.
     pub(crate) fn count_stray(&mut self, task: &Task<'_>, run: &Pending) -> Result<(), NoMemory>
-        requires { TraceOf (setting_of task.now) (run.now).trace (run.now).path }
+        requires { TraceOf (setting_of task.now) (run.now).from (run.now).trace (run.now).path }
         ensures { OnOk result ((q : Path) → Tallied (setting_of task.now) (stray_item (test_at run.now) q ∷ []) self.old self.new) }
     {
         add_terms(task.checked, run.trace.terms.as_slice(), &mut self.terms)?;

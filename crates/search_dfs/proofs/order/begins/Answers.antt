@@ -1,4 +1,4 @@
-use Rattle.std.proofs.Common.{rules, ◌≡◌, ◌<◌, ◌≤◌, length, false, refl, arith, ℕ, List}
+use Rattle.std.proofs.Common.{arith}
 use Rattle.search_dfs.proofs.Firsts.{all_same}
 use Rattle.search_dfs.proofs.order.begins.Goals as goal
 

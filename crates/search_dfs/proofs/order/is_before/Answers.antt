@@ -1,6 +1,5 @@
-use Rattle.std.proofs.Common.{◌≡◌, ◌<◌, ◌≤◌, length, false, sym, arith, get_or}
+use Rattle.std.proofs.Common.{sym, arith, get_or}
 use Rattle.cc_base.specs.declared.outcomes.Outcome.TheVariants.{Zero}
-use Rattle.cc_base.specs.Outcomes.{byte_of}
 use Rattle.search_dfs.proofs.Comparing.{ends_first, differ_at, not_both, not_before}
 use Rattle.search_dfs.proofs.Firsts.{any_default}
 use Rattle.search_dfs.proofs.order.is_before.Goals as goal

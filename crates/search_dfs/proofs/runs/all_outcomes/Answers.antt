@@ -1,5 +1,4 @@
 use Rattle.std.proofs.Common.{◌≡◌, ◌<◌, ◌⊎◌, ◌↔◌, map, insert, ap, sym, ◌∙◌, subst}
-use Rattle.cc_base.specs.declared.outcomes.Outcome.{Outcome}
 use Rattle.cc_base.specs.Outcomes.{byte_of}
 use Rattle.cc_base.specs.Paths.{In, Ascend}
 use Rattle.sym_run.specs.Traces.{outcome_at, others_at}

@@ -1,4 +1,6 @@
+use Rattle.std.proofs.Common.{ap, ◌∙◌}
 use Rattle.search_dfs.specs.Task.{setting_of}
+use Rattle.search_dfs.proofs.Baring.{bared_run}
 use Rattle.search_dfs.proofs.Choices.{within_input, made_trace}
 use Rattle.search_dfs.proofs.runs.made_run.Goals as goal
 
@@ -12,8 +14,8 @@ pub run-requires-clause-input : goal.run-requires-clause-input
 run-requires-clause-input c = within_input (setting_of (c.args.task).now) (c.args.input).now c.requires.within
 
 pub returns-clause-trace : goal.returns-clause-trace
-returns-clause-trace c = made_trace (setting_of (c.args.task).now) (c.args.input).now c.in_ok-trace.trace c.in_ok-path.path c.in_ok-trace.ensures.trace (c.in_ok-path.ensures.path _ _ _ c.in_ok-trace.ensures.trace) c.in_ok-path.ensures.outcomes c.in_ok-trace.ensures.end_of_run
-    c.in_ok-trace.ensures.few c.in_ok-trace.ensures.bytes c.requires.within c.requires.few c.in_ok-trace.ensures.short c.depth-depth.ensures.in_range
+returns-clause-trace c = bared_run (setting_of (c.args.task).now) c.args.from c.in_ok-trace.trace c.in_ok-path.path (made_trace (setting_of (c.args.task).now) (c.args.input).now c.in_ok-trace.trace c.in_ok-path.path c.in_ok-trace.ensures.trace (c.in_ok-path.ensures.path _ _ _ c.in_ok-trace.ensures.trace) c.in_ok-path.ensures.outcomes c.in_ok-trace.ensures.end_of_run
+    c.in_ok-trace.ensures.few c.in_ok-trace.ensures.bytes c.requires.within c.requires.few c.in_ok-trace.ensures.short c.depth-depth.ensures.in_range) _ c.in_ok-trace-2.ensures
 
 pub returns-clause-input : goal.returns-clause-input
-returns-clause-input c = (c.in_ok-trace.ensures.trace).input
+returns-clause-input c = ap (λ t. t.input) c.in_ok-trace-2.ensures ∙ (c.in_ok-trace.ensures.trace).input

@@ -1,8 +1,5 @@
-use Rattle.std.proofs.Common.{◌≡◌, ◌+◌, ◌++◌, [], ◌∷◌, refl, sym, ap, ◌∙◌}
-use Rattle.search_dfs.specs.declared.open.Open.{Open}
+use Rattle.std.proofs.Common.{◌+◌, ◌++◌, [], ◌∷◌, refl, ap, ◌∙◌}
 use Rattle.search_dfs.specs.Stack.{last_first}
-use Rattle.search_dfs.specs.Task.{setting_of}
-use Rattle.search_dfs.specs.Turns.{Begins}
 use Rattle.search_dfs.proofs.search.begin.Goals as goal
 
 pub returns : goal.returns

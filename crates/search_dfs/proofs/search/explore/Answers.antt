@@ -1,10 +1,10 @@
-use Rattle.std.proofs.Common.{◌≡◌, ◌≤◌, map, option_map, refl, sym, ap, ◌∙◌, subst, arith}
+use Rattle.std.proofs.Common.{map, option_map, ap, ◌∙◌, subst}
 use Rattle.cc_model.specs.Report.{term_lines}
 use Rattle.cc_outside.specs.Told.{appended, WritesPart}
 use Rattle.search_dfs.specs.Output.{seen_term}
 use Rattle.search_dfs.specs.Setting.{setting}
 use Rattle.search_dfs.proofs.Down.{on_err}
-use Rattle.search_dfs.proofs.Ending.{explored, explored_part, listed_part, sink_later}
+use Rattle.search_dfs.proofs.Ending.{explored, explored_part, listed_part}
 use Rattle.search_dfs.proofs.search.explore.Goals as goal
 
 pub laws_hold-requires : goal.laws_hold-requires

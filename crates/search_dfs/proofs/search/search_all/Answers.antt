@@ -1,9 +1,7 @@
-use Rattle.std.proofs.Common.{◌≡◌, ◌<◌, ◌≤◌, ℕ, [], refl, sym, ap, ◌∙◌, subst, arith}
-use Rattle.std.proofs.lemmas.Result.{err_from_is_err_and}
+use Rattle.std.proofs.Common.{[], refl, arith}
 use Rattle.search_dfs.specs.Task.{setting_of, after_of}
 use Rattle.search_dfs.proofs.Choices.{input_within, base_there}
 use Rattle.search_dfs.proofs.Down.{on_err}
-use Rattle.search_dfs.proofs.Ending.{sink_later}
 use Rattle.search_dfs.proofs.Running.{turned, broken, done, begins_ready, begun, begun_some, nothing_yet}
 use Rattle.search_dfs.proofs.search.search_all.Goals as goal
 

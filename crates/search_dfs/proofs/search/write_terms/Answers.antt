@@ -1,4 +1,4 @@
-use Rattle.std.proofs.Common.{◌≤◌, arith}
+use Rattle.std.proofs.Common.{arith}
 use Rattle.cc_model.specs.declared.terms.TermKind.TheVariants.{Product}
 use Rattle.search_dfs.proofs.Down.{on_err}
 use Rattle.search_dfs.proofs.Ending.{one_more, part_written, terms_next}

@@ -1,4 +1,4 @@
-use Rattle.std.proofs.Common.{◌≡◌, ◌<◌, ◌≤◌, length, Some, slice_get, refl, sym, ap, ◌∙◌, subst, arith}
+use Rattle.std.proofs.Common.{◌≡◌, length, Some, slice_get, sym, ap, subst, arith}
 use Rattle.search_dfs.specs.declared.tally.FoundTerm.{FoundTerm}
 use Rattle.search_dfs.specs.Inserting.{IsPlace}
 use Rattle.search_dfs.specs.Output.{seen_term, Comes, InOrder}

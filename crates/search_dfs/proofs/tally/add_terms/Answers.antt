@@ -1,4 +1,4 @@
-use Rattle.std.proofs.Common.{◌≡◌, ◌≤◌, length, sym, ap, ◌∙◌, arith}
+use Rattle.std.proofs.Common.{arith}
 use Rattle.search_dfs.specs.Below.{found_at}
 use Rattle.search_dfs.proofs.Terms.{found_more, found_all}
 use Rattle.search_dfs.proofs.tally.add_terms.Goals as goal

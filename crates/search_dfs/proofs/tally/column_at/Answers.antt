@@ -1,4 +1,4 @@
-use Rattle.std.proofs.Common.{◌≡◌, ◌≤◌, length, sym, ap, ◌∙◌, arith}
+use Rattle.std.proofs.Common.{sym, ◌∙◌, arith}
 use Rattle.cc_model.specs.declared.checked.SiteKind.TheVariants.{Decision}
 use Rattle.search_dfs.proofs.Terms.{column_here, column_on, column_end}
 use Rattle.search_dfs.proofs.tally.column_at.Goals as goal

@@ -1,4 +1,4 @@
-use Rattle.std.proofs.Common.{◌≡◌, ◌<◌, ◌≤◌, ◌+◌, ℕ, refl, sym, ap, ◌∙◌, subst, arith}
+use Rattle.std.proofs.Common.{refl, sym, subst, arith}
 use Rattle.cc_base.specs.Paths.{BeginsWith}
 use Rattle.search_dfs.specs.Task.{setting_of, after_of}
 use Rattle.search_dfs.proofs.Down.{on_err, ok_map, err_map}

@@ -1,15 +1,15 @@
-use Rattle.std.proofs.Common.{◌≡◌, ◌<◌, ◌≤◌, ℕ, ◌∷◌, length, refl, sym, ap, ◌∙◌, subst, arith}
+use Rattle.std.proofs.Common.{◌≤◌, ◌∷◌, length, refl, sym, ap, ◌∙◌, subst, arith}
 use Rattle.search_dfs.specs.Setting.{TraceOf, ChoicesOf}
 use Rattle.search_dfs.specs.Output.{out}
 use Rattle.search_dfs.specs.Stack.{path_of_run}
 use Rattle.search_dfs.specs.Task.{setting_of, after_of}
-use Rattle.search_dfs.specs.Turns.{Ended, EndedSome, Went, WentSome, test_at}
+use Rattle.search_dfs.specs.Turns.{Ended, EndedSome, test_at}
 use Rattle.search_dfs.proofs.Following.{runs_there, went_ended, refused_ended, push_some, push_few, push_ascending, push_room}
 use Rattle.search_dfs.proofs.Down.{refused, went_on, on_err}
 use Rattle.search_dfs.proofs.open.Open.go_down.Goals as goal
 
 pub list_run-requires : goal.list_run-requires
-list_run-requires g c = subst (λ x. TraceOf (setting_of (c.args.task).now) x.trace x.path) (sym (c.last_run-run.ensures c.requires.0 c.requires.1 (c.requires.2).runs)) (c.requires.2).trace
+list_run-requires g c = subst (λ x. TraceOf (setting_of (c.args.task).now) x.from x.trace x.path) (sym (c.last_run-run.ensures c.requires.0 c.requires.1 (c.requires.2).runs)) (c.requires.2).trace
 
 pub returns-in_err-list_run-clause-err : goal.returns-in_err-list_run-clause-err
 returns-in_err-list_run-clause-err g c =
@@ -32,7 +32,10 @@ returns-then-self-len-clause-ok g c = λ limit.
     (subst (λ x. Ended (setting_of (c.args.task).now) (after_of (c.args.task).now) (test_at x) (out (g.K.Sink.written (c.args.sink).now) (g.K.Sink.faults (c.args.sink).now) (c.args.tally).now) (out (g.K.Sink.written c.list_run.new.sink) (g.K.Sink.faults c.list_run.new.sink) c.list_run.new.tally)) e c.in_ok-list_run.ensures.ok)
 
 pub choices_of-requires-clause-trace : goal.choices_of-requires-clause-trace
-choices_of-requires-clause-trace g c = subst (λ x. TraceOf (setting_of (c.args.task).now) x.trace x.path) (sym (c.last_run-run.ensures c.requires.0 c.requires.1 (c.requires.2).runs)) (c.requires.2).trace
+choices_of-requires-clause-trace g c = subst (λ x. TraceOf (setting_of (c.args.task).now) x.from x.trace x.path) (sym (c.last_run-run.ensures c.requires.0 c.requires.1 (c.requires.2).runs)) (c.requires.2).trace
+
+pub choices_of-requires-clause-entered : goal.choices_of-requires-clause-entered
+choices_of-requires-clause-entered g c = subst (λ x. x.from ≤ ((c.args.self).now).depth) (sym (c.last_run-run.ensures c.requires.0 c.requires.1 (c.requires.2).runs)) (c.requires.2).from
 
 pub choices_of-requires-clause-event : goal.choices_of-requires-clause-event
 choices_of-requires-clause-event g c =

@@ -1,12 +1,13 @@
-use Rattle.std.proofs.Common.{◌≡◌, ◌<◌, ◌≤◌, ◌-◌, length, refl, sym, ap, ◌∙◌, subst, arith}
+use Rattle.std.proofs.Common.{◌<◌, ◌≤◌, ◌-◌, length, refl, sym, subst}
 use Rattle.cc_base.specs.Paths.{In}
 use Rattle.search_dfs.specs.Setting.{TraceOf, others_of}
 use Rattle.search_dfs.specs.Task.{setting_of, after_of}
-use Rattle.search_dfs.proofs.Following.{runs_there, none_turn, never_turn, spent_turn, spent_some}
+use Rattle.flip_solve.proofs.Bared.{fewer_needed}
+use Rattle.search_dfs.proofs.Following.{none_turn, never_turn, spent_turn, spent_some}
 use Rattle.search_dfs.proofs.Choices.{within_input, event_offered}
 use Rattle.search_dfs.proofs.Down.{on_err, ok_map, err_map}
 use Rattle.search_dfs.proofs.Solved.{is_never, is_spent, is_turned}
-use Rattle.search_dfs.proofs.Step.{in_prefix, offered_at}
+use Rattle.search_dfs.proofs.Step.{entered_before, in_prefix, offered_at}
 use Rattle.search_dfs.proofs.open.Open.solve.Goals as goal
 
 pub turn-requires-clause-points : goal.turn-requires-clause-points
@@ -16,29 +17,30 @@ pub turn-requires-clause-input : goal.turn-requires-clause-input
 turn-requires-clause-input g c =
     let T = (c.requires.solving.4).taken in
     let e = c.last_run-run.ensures c.requires.solving.2 c.requires.solving.3 T.runs in
-    let tr = subst (λ x. TraceOf (setting_of (c.args.task).now) x.trace x.path) (sym e) (T.level).trace in
+    let tr = subst (λ x. TraceOf (setting_of (c.args.task).now) x.from x.trace x.path) (sym e) (T.level).trace in
     within_input (setting_of (c.args.task).now) _ tr.within
 
 pub turn-requires-clause-trace : goal.turn-requires-clause-trace
 turn-requires-clause-trace g c =
     let T = (c.requires.solving.4).taken in
     let e = c.last_run-run.ensures c.requires.solving.2 c.requires.solving.3 T.runs in
-    let tr = subst (λ x. TraceOf (setting_of (c.args.task).now) x.trace x.path) (sym e) (T.level).trace in
-    tr.is_trace
+    let tr = subst (λ x. TraceOf (setting_of (c.args.task).now) x.from x.trace x.path) (sym e) (T.level).trace in
+    fewer_needed _ _ _ _ _ _ (subst (λ x. x.from ≤ ((c.args.self).now).depth - 1) (sym e) (entered_before (setting_of (c.args.task).now) (c.args.self).now c.args.outcome c.requires.solving.0 c.requires.solving.1 c.requires.solving.2 c.requires.solving.3 T)) tr.is_trace
 
 pub turn-requires-clause-lawful : goal.turn-requires-clause-lawful
 turn-requires-clause-lawful g c =
     let T = (c.requires.solving.4).taken in
     let e = c.last_run-run.ensures c.requires.solving.2 c.requires.solving.3 T.runs in
-    let tr = subst (λ x. TraceOf (setting_of (c.args.task).now) x.trace x.path) (sym e) (T.level).trace in
+    let tr = subst (λ x. TraceOf (setting_of (c.args.task).now) x.from x.trace x.path) (sym e) (T.level).trace in
     c.a_run_is_lawful.ensures _ _ _ c.requires.known.points (within_input (setting_of (c.args.task).now) _ tr.within)
 
 pub turn-requires-clause-offered : goal.turn-requires-clause-offered
 turn-requires-clause-offered g c =
     let S = c.requires.solving.4 in
     let e = c.last_run-run.ensures c.requires.solving.2 c.requires.solving.3 (S.taken).runs in
-    let tr = subst (λ x. TraceOf (setting_of (c.args.task).now) x.trace x.path) (sym e) ((S.taken).level).trace in
-    event_offered (setting_of (c.args.task).now) _ _ tr (((c.args.self).now).depth - 1) c.args.outcome
+    let tr = subst (λ x. TraceOf (setting_of (c.args.task).now) x.from x.trace x.path) (sym e) ((S.taken).level).trace in
+    event_offered (setting_of (c.args.task).now) _ _ _ tr (((c.args.self).now).depth - 1) c.args.outcome
+    (subst (λ x. x.from ≤ ((c.args.self).now).depth - 1) (sym e) (entered_before (setting_of (c.args.task).now) (c.args.self).now c.args.outcome c.requires.solving.0 c.requires.solving.1 c.requires.solving.2 c.requires.solving.3 S.taken))
     (subst (λ x. ((c.args.self).now).depth - 1 < length x.path) (sym e) (in_prefix (setting_of (c.args.task).now) (c.args.self).now c.args.outcome c.requires.solving.0 c.requires.solving.1 c.requires.solving.2 c.requires.solving.3 S.taken))
     (subst (λ x. In c.args.outcome (others_of (setting_of (c.args.task).now) (x.trace).input (((c.args.self).now).depth - 1))) (sym e) (offered_at (setting_of (c.args.task).now) (c.args.self).now c.args.outcome c.requires.solving.0 c.requires.solving.1 c.requires.solving.2 c.requires.solving.3 S.taken S.other))
 
