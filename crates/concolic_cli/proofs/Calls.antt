@@ -16,7 +16,7 @@ use Rattle.concolic_cli.specs.Refusals.{bad_word_text, file_text, map_text_of, S
 use Rattle.concolic_cli.specs.Session.{ReadAs, Wrote, WroteFirst, Stands, nothing, Cause, SourceCause, WroteLast, WroteLastFirst, LastStands, no_line, MadeCause}
 use Rattle.concolic_cli.specs.Sources.{Refuses}
 use Rattle.concolic_cli.specs.Tasks.{Task, Work, list, trace, Asks, IsReport, RefusesTask}
-use Rattle.concolic_cli.specs.Words.{Accepted, BadWord}
+use Rattle.command_words.specs.Words.{Accepted, BadWord}
 
 -- ---- the status of a report
 

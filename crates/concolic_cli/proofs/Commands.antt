@@ -9,9 +9,9 @@ use Rattle.cc_model.specs.declared.commands.RunWords.{RunWords}
 use Rattle.cc_model.specs.declared.commands.TraceWords.{TraceWords}
 use Rattle.cc_model.specs.declared.commands.ReplayWords.{ReplayWords}
 use Rattle.concolic_cli.specs.Tasks.{Task, Asks, asks_list, asks_trace, word_of, text_or_none, IsPathOf, IsAfter, list_task, trace_task}
-use Rattle.concolic_cli.specs.Words.{Accepted, IsPath, behind, place_behind, run_words}
-use Rattle.concolic_cli.proofs.Forms.{IsRun, Form, a_run, a_trace, a_make, form_of}
-use Rattle.concolic_cli.proofs.PathWords.{one_path, found_behind, fine_path}
+use Rattle.command_words.specs.Words.{Accepted, IsPath, behind, place_behind, run_words}
+use Rattle.command_words.proofs.Forms.{IsRun, Form, a_run, a_trace, a_make, form_of}
+use Rattle.command_words.proofs.PathWords.{one_path, found_behind, fine_path}
 
 -- ---- of the words
 

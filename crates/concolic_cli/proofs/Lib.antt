@@ -1,11 +1,4 @@
-pub mod Numerals
-pub mod NamedWords
-mod PathWords
 mod PathReads
-mod OptionFits
-mod OptionReads
-mod OptionTables
-pub mod Forms
 mod MapRefusals
 mod TraceLines
 mod Searches

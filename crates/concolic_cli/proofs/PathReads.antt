@@ -4,8 +4,8 @@ use Rattle.cc_base.specs.declared.outcomes.Outcome.{Outcome}
 use Rattle.cc_base.specs.Outcomes.{byte_of, HasByte}
 use Rattle.cc_base.specs.Paths.{Path}
 use Rattle.concolic_cli.specs.Tasks.{IsPathOf}
-use Rattle.concolic_cli.specs.Words.{IsPath}
-use Rattle.concolic_cli.proofs.PathWords.{byte_tells, all_first, all_later}
+use Rattle.command_words.specs.Words.{IsPath}
+use Rattle.command_words.proofs.PathWords.{byte_tells, all_first, all_later}
 
 -- the first n outcomes of the bytes were read
 abbrev pub Reads : List ℕ → ℕ → Path → Type 0

@@ -31,7 +31,7 @@ use Rattle.concolic_cli.specs.Refusals.{bad_word_text, Says}
 use Rattle.concolic_cli.specs.Session.{ReadAs, Wrote, nothing, part, WroteLast, LastStands, no_line, first_part}
 use Rattle.concolic_cli.specs.Sources.{Refuses, lexical, syntax, too_deep, fault, no_entry}
 use Rattle.concolic_cli.specs.Tasks.{Task, Work, list, trace, Asks, asks_list, asks_trace, IsAfter, word_of, list_task, trace_task, IsReport, MayStand, MakesAs, RefusesTask}
-use Rattle.concolic_cli.specs.Words.{Accepted, BadWord}
+use Rattle.command_words.specs.Words.{Accepted, BadWord}
 use Rattle.concolic_cli.proofs.Calls.{Ending, at_words, at_report, at_source, at_file, at_output, at_memory, at_make, MakeEnding, at_line, at_made_source, at_made_output, at_made_memory, make_status, not_made, apart, run_in, small_of, small_in, trace_status}
 use Rattle.concolic_cli.proofs.Commands.{OneCommand, of_list, of_trace, one_task, not_make, has_after, has_command}
 use Rattle.concolic_cli.proofs.Searches.{runs_of}

@@ -19,7 +19,7 @@ use Rattle.concolic_cli.specs.Refusals.{bad_word_text, file_text, Says, IsAnswer
 use Rattle.concolic_cli.specs.Session.{ReadAs, Seen, Wrote, Stands, Cause, WroteLast, LastStands, MadeCause}
 use Rattle.concolic_cli.specs.Sources.{Refuses}
 use Rattle.concolic_cli.specs.Tasks.{Task, Asks, IsAfter, word_of, RefusesTask}
-use Rattle.concolic_cli.specs.Words.{Accepted, BadWord}
+use Rattle.command_words.specs.Words.{Accepted, BadWord}
 
 -- the words are no command
 abbrev pub HasNoCommand : List (List ℕ) → Type 0

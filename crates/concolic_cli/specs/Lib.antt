@@ -1,6 +1,4 @@
-pub mod Words
 pub mod Sources
-pub mod Options
 pub mod Refusals
 pub mod Listings
 pub mod Made

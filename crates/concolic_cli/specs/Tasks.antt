@@ -20,7 +20,7 @@ use Rattle.concolic_cli.specs.Made.{made_source, made_entry, made_bounds, made_b
 use Rattle.concolic_cli.specs.Refusals.{map_text_of}
 use Rattle.concolic_cli.specs.Sources.{Refuses}
 use Rattle.concolic_cli.specs.TraceText.{trace_text}
-use Rattle.concolic_cli.specs.Words.{Accepted, IsPath}
+use Rattle.command_words.specs.Words.{Accepted, IsPath}
 
 -- ---- tasks
 

@@ -3,7 +3,7 @@
 ghost use Rattle.std.specs.Prelude.{◌≡◌, All, map, IfOk, Option, option_map};
 ghost use Rattle.cc_base.specs.Outcomes.{byte_of, HasByte};
 ghost use Rattle.cc_base.specs.Paths.{Path};
-ghost use Rattle.concolic_cli.specs.Words.{IsPath};
+ghost use Rattle.command_words.specs.Words.{IsPath};
 ghost use Rattle.concolic_cli.specs.Tasks.{IsPathOf};
 
 use cc_model::base::{NoMemory, Outcome, PathText};

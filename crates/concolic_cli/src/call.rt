@@ -22,16 +22,16 @@ ghost use Rattle.concolic_cli.specs.Refusals.{bad_word_text, Says};
 ghost use Rattle.concolic_cli.specs.Session.{Wrote, WroteLast};
 ghost use Rattle.concolic_cli.specs.Sources.{Refuses};
 ghost use Rattle.concolic_cli.specs.Tasks.{Task, Asks, IsAfter, word_of, list_task, trace_task};
-ghost use Rattle.concolic_cli.specs.Words.{texts, Accepted, BadWord};
+ghost use Rattle.command_words.specs.Words.{texts, Accepted, BadWord};
 
 use crate::answers::{Status, refuse};
 use crate::making::write_made;
 use crate::refusal::Refusal;
 use crate::session::{list_tests, tell_run};
-use crate::words::{one_command, read_words};
 use c_parse::one_program;
 use cc_model::{Command, RunWords, TraceWords};
 use cc_outside::{Files, Sink};
+use command_words::{one_command, read_words};
 use std::alloc::Global;
 
 /// Word number `number`, from 1; empty where there is no such word.

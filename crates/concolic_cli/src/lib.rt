@@ -16,9 +16,7 @@ mod report;
 mod searching;
 mod session;
 mod tracing;
-pub mod words;
 
 pub use answers::Status;
 pub use call::concolic;
 pub use laws::listings_agree;
-pub use words::read_words;

@@ -1,7 +1,7 @@
 //! Words and the commands that they are.
 
 use cc_model::{Command, Strategy};
-use concolic_cli::read_words;
+use command_words::read_words;
 use std::alloc::{AllocError, Global};
 use std::test::Fail;
 

@@ -1,5 +1,5 @@
 use Rattle.std.proofs.Common.{refl, subst}
-use Rattle.concolic_cli.specs.Words.{texts, Accepted}
+use Rattle.command_words.specs.Words.{texts, Accepted}
 use Rattle.concolic_cli.proofs.Calls.{bad_call}
 use Rattle.concolic_cli.proofs.Commands.{has_after, branches_in}
 use Rattle.concolic_cli.proofs.call.answer.Goals as goal

@@ -1,0 +1,6 @@
+//! The words of the command line, and the command that they give.
+#![tactic(auto)]
+
+pub mod words;
+
+pub use words::{one_command, read_words};

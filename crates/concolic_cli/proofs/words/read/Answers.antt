@@ -1,6 +1,0 @@
-use Rattle.concolic_cli.specs.Words.{texts}
-use Rattle.concolic_cli.proofs.Forms.{bad_1}
-use Rattle.concolic_cli.proofs.words.read.Goals as goal
-
-pub returns-in_default-behind_keyword-2-clause-bad : goal.returns-in_default-behind_keyword-2-clause-bad
-returns-in_default-behind_keyword-2-clause-bad c = bad_1 (texts c.args.words.now) c.in_default.ensures.none c.in_default-behind_keyword.ensures.none c.in_default-behind_keyword-2.ensures.none
