@@ -1,19 +1,21 @@
 -- What the forms of the commands say of the first words of a list.
 use Rattle.std.proofs.Common.{◌≡◌, ◌∙◌, sym, ap, refl, subst, ℕ, suc, ◌+◌, ◌<◌, ◌≤◌, ◌⊎◌, inl, inr, ⊎_elim, pos, List, [], ◌∷◌, ◌++◌, take, drop, length, arith, codes, append_assoc, length-append, Result, Ok, Err}
-use Rattle.std.specs.Prelude.{IfOk, IfErr}
+use Rattle.std.specs.Prelude.{IfOk, IfErr, bytes_eq}
 use Rattle.std.proofs.lemmas.List.{take-append-le, take-append-drop, take_at}
 use Rattle.std.proofs.lemmas.Int.{ints}
 use Rattle.std.specs.Fmt.{signed_decimal}
 use Rattle.cc_base.specs.Limits.{Limits}
 use Rattle.cc_model.specs.declared.commands.Command.{Command}
-use Rattle.cc_model.specs.declared.commands.Command.TheVariants.{Make}
+use Rattle.cc_model.specs.declared.commands.Command.TheVariants.{Make, Replay}
+use Rattle.cc_model.specs.declared.commands.Strategy.{Strategy}
+use Rattle.cc_model.specs.declared.commands.Strategy.TheVariants.{Dfs, Random, UniformRandom, Cfg}
 use Rattle.command_words.specs.declared.words.Takes.TheVariants.{PathText}
-use Rattle.command_words.specs.Words.{Row, Accepted, run, trace, make, Begins, BadWord, run_words, trace_words, IsNumber, IsGiven, IsFine, behind, place_behind, AreNamed, AreBounds, run_options, trace_options, solver_option, depth_option}
+use Rattle.command_words.specs.Words.{Row, Accepted, run, trace, replay, make, Begins, BadWord, run_words, trace_words, strategy_word, IsNumber, IsGiven, IsSeed, IsFine, behind, place_behind, AreNamed, AreBounds, run_options, trace_options, solver_option, depth_option}
 use Rattle.command_words.specs.Options.{Fits, FitsWith, IsBadAt}
 use Rattle.command_words.proofs.NamedWords.{Words, length_take}
 use Rattle.command_words.proofs.Numerals.{one_number}
 use Rattle.command_words.proofs.OptionFits.{option_given}
-use Rattle.command_words.proofs.OptionTables.{run_table, trace_table, fits_nothing, has_bounds, given_natural, given_once, bounds_once, run_fits, trace_fits}
+use Rattle.command_words.proofs.OptionTables.{run_table, trace_table, fits_nothing, has_bounds, has_seed, has_path, solver_there, given_natural, given_once, seed_once, bounds_once, run_fits, trace_fits}
 
 -- ---- the forms
 
@@ -24,16 +26,19 @@ pub record IsRun (words : Words) (command : Command) : Type 0 where
   pub n : List ℕ
   pub d : List ℕ
   pub options : Words
+  pub strategy : Strategy
   pub runs : ℕ
   pub budget : ℕ
+  pub seed : ℕ
   pub bounds : Limits
-  pub words_are : words ≡ codes "run" ∷ file ∷ entry ∷ n ∷ codes "-dfs" ∷ d ∷ options
-  pub command_is : command ≡ run_words runs bounds budget (place_behind (codes "-after") 6 options)
+  pub words_are : words ≡ codes "run" ∷ file ∷ entry ∷ n ∷ strategy_word strategy ∷ d ∷ options
+  pub command_is : command ≡ run_words runs strategy bounds budget seed (place_behind (codes "-after") 6 options)
   pub runs_is : IsNumber n (pos 1) (pos 1000000) (pos runs)
   pub depth_is : IsNumber d (pos 1) (pos 1024) (pos bounds.depth)
-  pub named : AreNamed run_options options
+  pub named : AreNamed (run_options strategy) options
   pub bounds_are : AreBounds options bounds
   pub budget_is : IsGiven options solver_option (pos budget)
+  pub seed_is : IsSeed options seed
   pub after_is : IsFine PathText (behind (codes "-after") options)
 
 -- an accepted list that begins with `trace`
@@ -49,6 +54,14 @@ pub record IsTrace (words : Words) (command : Command) : Type 0 where
   pub bounds_are : AreBounds options bounds
   pub depth_is : IsGiven options depth_option (pos bounds.depth)
 
+-- an accepted list that begins with `replay`
+pub record IsReplay (words : Words) (command : Command) : Type 0 where
+  pub file : List ℕ
+  pub entry : List ℕ
+  pub tests : List ℕ
+  pub words_are : words ≡ codes "replay" ∷ file ∷ entry ∷ tests ∷ []
+  pub command_is : command ≡ Replay (record { file = 2; entry = 3; tests = 4 })
+
 -- an accepted list that begins with `make`
 pub record IsMake (words : Words) (command : Command) : Type 0 where
   pub n : List ℕ
@@ -61,11 +74,13 @@ pub record IsMake (words : Words) (command : Command) : Type 0 where
 pub data Form (words : Words) (command : Command) : Type 0 where
   a_run : IsRun words command → Form words command
   a_trace : IsTrace words command → Form words command
+  a_replay : IsReplay words command → Form words command
   a_make : IsMake words command → Form words command
 
 pub form_of : (words : Words) (command : Command) → Accepted words command → Form words command
-form_of _ _ (run f e n d o r b l x y z u v w) = a_run (record { file = f; entry = e; n = n; d = d; options = o; runs = r; budget = b; bounds = l; words_are = refl; command_is = refl; runs_is = x; depth_is = y; named = z; bounds_are = u; budget_is = v; after_is = w })
+form_of _ _ (run f e n d s o r b k l x y z u v t w) = a_run (record { file = f; entry = e; n = n; d = d; options = o; strategy = s; runs = r; budget = b; seed = k; bounds = l; words_are = refl; command_is = refl; runs_is = x; depth_is = y; named = z; bounds_are = u; budget_is = v; seed_is = t; after_is = w })
 form_of _ _ (trace f e m o l z u v) = a_trace (record { file = f; entry = e; input = m; options = o; bounds = l; words_are = refl; command_is = refl; named = z; bounds_are = u; depth_is = v })
+form_of _ _ (replay f e t) = a_replay (record { file = f; entry = e; tests = t; words_are = refl; command_is = refl })
 form_of _ _ (make n k x) = a_make (record { n = n; branches = k; words_are = refl; command_is = refl; branches_are = x })
 
 pub run_of : (rest : Words) (command : Command) → Accepted (codes "run" ∷ rest) command → IsRun (codes "run" ∷ rest) command
@@ -74,6 +89,7 @@ run_of rest command a = by_form (form_of (codes "run" ∷ rest) command a)
     by_form : Form (codes "run" ∷ rest) command → IsRun (codes "run" ∷ rest) command
     by_form (a_run r) = r
     by_form (a_trace t) = let e = t.words_are in absurd (cc e)
+    by_form (a_replay t) = let e = t.words_are in absurd (cc e)
     by_form (a_make m) = let e = m.words_are in absurd (cc e)
 
 pub trace_of : (rest : Words) (command : Command) → Accepted (codes "trace" ∷ rest) command → IsTrace (codes "trace" ∷ rest) command
@@ -82,6 +98,7 @@ trace_of rest command a = by_form (form_of (codes "trace" ∷ rest) command a)
     by_form : Form (codes "trace" ∷ rest) command → IsTrace (codes "trace" ∷ rest) command
     by_form (a_run r) = let e = r.words_are in absurd (cc e)
     by_form (a_trace t) = t
+    by_form (a_replay t) = let e = t.words_are in absurd (cc e)
     by_form (a_make m) = let e = m.words_are in absurd (cc e)
 
 pub make_of : (rest : Words) (command : Command) → Accepted (codes "make" ∷ rest) command → IsMake (codes "make" ∷ rest) command
@@ -90,7 +107,36 @@ make_of rest command a = by_form (form_of (codes "make" ∷ rest) command a)
     by_form : Form (codes "make" ∷ rest) command → IsMake (codes "make" ∷ rest) command
     by_form (a_run r) = let e = r.words_are in absurd (cc e)
     by_form (a_trace t) = let e = t.words_are in absurd (cc e)
+    by_form (a_replay t) = let e = t.words_are in absurd (cc e)
     by_form (a_make m) = m
+
+pub replay_of : (rest : Words) (command : Command) → Accepted (codes "replay" ∷ rest) command → IsReplay (codes "replay" ∷ rest) command
+replay_of rest command a = by_form (form_of (codes "replay" ∷ rest) command a)
+  where
+    by_form : Form (codes "replay" ∷ rest) command → IsReplay (codes "replay" ∷ rest) command
+    by_form (a_run r) = let e = r.words_are in absurd (cc e)
+    by_form (a_trace t) = let e = t.words_are in absurd (cc e)
+    by_form (a_replay t) = t
+    by_form (a_make m) = let e = m.words_are in absurd (cc e)
+
+-- words of strategies tell them
+pub same_strategy : (s t : Strategy) → strategy_word s ≡ strategy_word t → s ≡ t
+same_strategy Dfs Dfs e = refl
+same_strategy Dfs Random e = absurd (cc e)
+same_strategy Dfs UniformRandom e = absurd (cc e)
+same_strategy Dfs Cfg e = let f : bytes_eq (codes "-dfs") (codes "-dfs") ≡ bytes_eq (codes "-cfg") (codes "-dfs") = ap (λ (l : List ℕ). bytes_eq l (codes "-dfs")) e in absurd (cc f)
+same_strategy Random Dfs e = absurd (cc e)
+same_strategy Random Random e = refl
+same_strategy Random UniformRandom e = absurd (cc e)
+same_strategy Random Cfg e = absurd (cc e)
+same_strategy UniformRandom Dfs e = absurd (cc e)
+same_strategy UniformRandom Random e = absurd (cc e)
+same_strategy UniformRandom UniformRandom e = refl
+same_strategy UniformRandom Cfg e = absurd (cc e)
+same_strategy Cfg Dfs e = let f : bytes_eq (codes "-cfg") (codes "-dfs") ≡ bytes_eq (codes "-dfs") (codes "-dfs") = ap (λ (l : List ℕ). bytes_eq l (codes "-dfs")) e in absurd (cc f)
+same_strategy Cfg Random e = absurd (cc e)
+same_strategy Cfg UniformRandom e = absurd (cc e)
+same_strategy Cfg Cfg e = refl
 
 -- ---- a list of words with a part read
 
@@ -143,13 +189,14 @@ one : IsNumber text_of_one (pos 1) (pos 1000000) (pos 1)
 unfolding text_of_one
 one = record { text = refl; at_least = omega (arith, ints); at_most = omega (arith, ints) }
 
-pub accepted_run : (f e n d : List ℕ) (options : Words) (runs depth : ℕ) → IsNumber n (pos 1) (pos 1000000) (pos runs) → IsNumber d (pos 1) (pos 1024) (pos depth) → Fits run_options options
-    → (command : Command) × Accepted (codes "run" ∷ f ∷ e ∷ n ∷ codes "-dfs" ∷ d ∷ options) command
-accepted_run f e n d options runs depth r s fits =
-    let b = has_bounds run_options run_table options depth fits in
-    let budget = given_natural options solver_option refl (option_given run_options run_table options fits (codes "-solver") solver_option.1 refl) in (
-      run_words runs b.0 budget.0 (place_behind (codes "-after") 6 options),
-      run f e n d options runs budget.0 b.0 r (subst (λ k. IsNumber d (pos 1) (pos 1024) (pos k)) (sym b.2) s) fits.named b.1 budget.1 (fits.given (codes "-after") PathText refl),
+pub accepted_run : (f e n d : List ℕ) (s : Strategy) (options : Words) (runs depth : ℕ) → IsNumber n (pos 1) (pos 1000000) (pos runs) → IsNumber d (pos 1) (pos 1024) (pos depth) → Fits (run_options s) options
+    → (command : Command) × Accepted (codes "run" ∷ f ∷ e ∷ n ∷ strategy_word s ∷ d ∷ options) command
+accepted_run f e n d s options runs depth r t fits =
+    let b = has_bounds (run_options s) (run_table s) options depth fits in
+    let budget = given_natural options solver_option refl (option_given (run_options s) (run_table s) options fits (codes "-solver") solver_option.1 (solver_there s)) in
+    let seed = has_seed s options fits in (
+      run_words runs s b.0 budget.0 seed.0 (place_behind (codes "-after") 6 options),
+      run f e n d s options runs budget.0 seed.0 b.0 r (subst (λ k. IsNumber d (pos 1) (pos 1024) (pos k)) (sym b.2) t) fits.named b.1 budget.1 seed.1 (has_path s options fits),
     )
 
 pub accepted_trace : (f e m : List ℕ) (options : Words) → Fits trace_options options → (command : Command) × Accepted (codes "trace" ∷ f ∷ e ∷ m ∷ options) command
@@ -158,11 +205,14 @@ accepted_trace f e m options fits =
     let b = has_bounds trace_options trace_table options depth.0 fits in
     (trace_words b.0, trace f e m options b.0 fits.named b.1 (subst (λ k. IsGiven options depth_option (pos k)) (sym b.2) depth.1))
 
-begins_run : (k : ℕ) (f e n d : List ℕ) (runs depth : ℕ) → IsNumber n (pos 1) (pos 1000000) (pos runs) → IsNumber d (pos 1) (pos 1024) (pos depth)
-    → Begins (take k (codes "run" ∷ f ∷ e ∷ n ∷ codes "-dfs" ∷ d ∷ []))
-begins_run k f e n d runs depth r s =
-    let a = accepted_run f e n d [] runs depth r s (fits_nothing run_options run_table) in
-    begins_take (codes "run" ∷ f ∷ e ∷ n ∷ codes "-dfs" ∷ d ∷ []) k ([], a.0, a.1)
+begins_run : (k : ℕ) (f e n d : List ℕ) (s : Strategy) (runs depth : ℕ) → IsNumber n (pos 1) (pos 1000000) (pos runs) → IsNumber d (pos 1) (pos 1024) (pos depth)
+    → Begins (take k (codes "run" ∷ f ∷ e ∷ n ∷ strategy_word s ∷ d ∷ []))
+begins_run k f e n d s runs depth r t =
+    let a = accepted_run f e n d s [] runs depth r t (fits_nothing (run_options s) (run_table s)) in
+    begins_take (codes "run" ∷ f ∷ e ∷ n ∷ strategy_word s ∷ d ∷ []) k ([], a.0, a.1)
+
+begins_replay : (k : ℕ) (f e t : List ℕ) → Begins (take k (codes "replay" ∷ f ∷ e ∷ t ∷ []))
+begins_replay k f e t = begins_take (codes "replay" ∷ f ∷ e ∷ t ∷ []) k ([], Replay (record { file = 2; entry = 3; tests = 4 }), replay f e t)
 
 begins_trace : (k : ℕ) (f e m : List ℕ) → Begins (take k (codes "trace" ∷ f ∷ e ∷ m ∷ []))
 begins_trace k f e m =
@@ -176,9 +226,9 @@ deep = record { text = refl; at_least = omega (arith, ints); at_most = omega (ar
 begins_make : (k : ℕ) → Begins (take k (codes "make" ∷ text_of_one ∷ []))
 begins_make k = begins_take (codes "make" ∷ text_of_one ∷ []) k ([], Make 1, make text_of_one 1 deep)
 
--- word 1 is `run`, `trace` or `make`
-pub bad_1 : (words : Words) → ((rest : Words) → words ≡ codes "run" ∷ rest → ⊥) → ((rest : Words) → words ≡ codes "trace" ∷ rest → ⊥) → ((rest : Words) → words ≡ codes "make" ∷ rest → ⊥) → BadWord words 1
-bad_1 words no_run no_trace no_make =
+-- word 1 is `run`, `trace`, `replay` or `make`
+pub bad_1 : (words : Words) → ((rest : Words) → words ≡ codes "run" ∷ rest → ⊥) → ((rest : Words) → words ≡ codes "trace" ∷ rest → ⊥) → ((rest : Words) → words ≡ codes "replay" ∷ rest → ⊥) → ((rest : Words) → words ≡ codes "make" ∷ rest → ⊥) → BadWord words 1
+bad_1 words no_run no_trace no_replay no_make =
     bad_after [] words refl (begins_trace 0 [] [] []) (λ tail command g a. by_form tail command g (form_of tail command a))
   where
     begun : (words tail : Words) → GoesOn words tail → (w : List ℕ) (later : Words) → tail ≡ w ∷ later → ((rest : Words) → words ≡ w ∷ rest → ⊥) → ⊥
@@ -188,6 +238,7 @@ bad_1 words no_run no_trace no_make =
     by_form : (tail : Words) (command : Command) → GoesOn words tail → Form tail command → ⊥
     by_form tail command g (a_run r) = begun words tail g (codes "run") _ r.words_are no_run
     by_form tail command g (a_trace t) = begun words tail g (codes "trace") _ t.words_are no_trace
+    by_form tail command g (a_replay t) = begun words tail g (codes "replay") _ t.words_are no_replay
     by_form tail command g (a_make m) = begun words tail g (codes "make") _ m.words_are no_make
 
 -- `make`: word 2 is the number of branches
@@ -219,14 +270,14 @@ make_whole {l1} {l2} {w} {n} e1 r e2 =
 
 -- `run`: word 2 is any word; below, l1 is what stands behind word 1, and so on
 pub run_2 : {l1 : Words} → l1 ≡ [] → BadWord (codes "run" ∷ l1) 2
-run_2 {l1} none = bad_after (codes "run" ∷ []) [] (ap (λ (l : Words). codes "run" ∷ l) none) (begins_run 1 [] [] text_of_one text_of_one 1 1 one deep) (λ tail command g a. ended tail g command a)
+run_2 {l1} none = bad_after (codes "run" ∷ []) [] (ap (λ (l : Words). codes "run" ∷ l) none) (begins_run 1 [] [] text_of_one text_of_one Dfs 1 1 one deep) (λ tail command g a. ended tail g command a)
   where
     ended : (tail : Words) → GoesOn [] tail → (command : Command) → Accepted (codes "run" ∷ tail) command → ⊥
     ended _ ends command a = cc (run_of [] command a).words_are
 
 -- word 3 is any word
 pub run_3 : {l1 l2 : Words} {f : List ℕ} → l1 ≡ f ∷ l2 → l2 ≡ [] → BadWord (codes "run" ∷ l1) 3
-run_3 {l1} {l2} {f} e1 none = bad_after (codes "run" ∷ f ∷ []) [] (cc (e1, none)) (begins_run 2 f [] text_of_one text_of_one 1 1 one deep) (λ tail command g a. ended tail g command a)
+run_3 {l1} {l2} {f} e1 none = bad_after (codes "run" ∷ f ∷ []) [] (cc (e1, none)) (begins_run 2 f [] text_of_one text_of_one Dfs 1 1 one deep) (λ tail command g a. ended tail g command a)
   where
     ended : (tail : Words) → GoesOn [] tail → (command : Command) → Accepted (codes "run" ∷ f ∷ tail) command → ⊥
     ended _ ends command a = cc (run_of (f ∷ []) command a).words_are
@@ -235,7 +286,7 @@ run_3 {l1} {l2} {f} e1 none = bad_after (codes "run" ∷ f ∷ []) [] (cc (e1, n
 pub run_4 : {l1 l2 l3 : Words} {f e : List ℕ} → l1 ≡ f ∷ l2 → l2 ≡ e ∷ l3
     → ((w : List ℕ) (rest : Words) (n : ℕ) → l3 ≡ w ∷ rest → IsNumber w (pos 1) (pos 1000000) (pos n) → ⊥) → BadWord (codes "run" ∷ l1) 4
 run_4 {l1} {l2} {l3} {f} {e} e1 e2 none =
-    bad_after (codes "run" ∷ f ∷ e ∷ []) l3 (cc (e1, e2)) (begins_run 3 f e text_of_one text_of_one 1 1 one deep) (λ tail command g a. ended l3 tail g none command a)
+    bad_after (codes "run" ∷ f ∷ e ∷ []) l3 (cc (e1, e2)) (begins_run 3 f e text_of_one text_of_one Dfs 1 1 one deep) (λ tail command g a. ended l3 tail g none command a)
   where
     ended : (l tail : Words) → GoesOn l tail → ((w : List ℕ) (rest : Words) (n : ℕ) → l ≡ w ∷ rest → IsNumber w (pos 1) (pos 1000000) (pos n) → ⊥)
         → (command : Command) → Accepted (codes "run" ∷ f ∷ e ∷ tail) command → ⊥
@@ -245,30 +296,30 @@ run_4 {l1} {l2} {l3} {f} {e} e1 e2 none =
         let same : r.n ≡ w = cc r.words_are in
         none w more r.runs refl (subst (λ m. IsNumber m (pos 1) (pos 1000000) (pos r.runs)) same r.runs_is)
 
--- word 5 is `-dfs`
+-- word 5 is the strategy
 pub run_5 : {l1 l2 l3 l4 : Words} {f e w : List ℕ} {n : ℕ} → l1 ≡ f ∷ l2 → l2 ≡ e ∷ l3 → l3 ≡ w ∷ l4 → IsNumber w (pos 1) (pos 1000000) (pos n)
-    → ((rest : Words) → l4 ≡ codes "-dfs" ∷ rest → ⊥) → BadWord (codes "run" ∷ l1) 5
+    → ((s : Strategy) (rest : Words) → l4 ≡ strategy_word s ∷ rest → ⊥) → BadWord (codes "run" ∷ l1) 5
 run_5 {l1} {l2} {l3} {l4} {f} {e} {w} {n} e1 e2 e3 r none =
-    bad_after (codes "run" ∷ f ∷ e ∷ w ∷ []) l4 (cc (e1, e2, e3)) (begins_run 4 f e w text_of_one n 1 r deep) (λ tail command g a. ended l4 tail g none command a)
+    bad_after (codes "run" ∷ f ∷ e ∷ w ∷ []) l4 (cc (e1, e2, e3)) (begins_run 4 f e w text_of_one Dfs n 1 r deep) (λ tail command g a. ended l4 tail g none command a)
   where
-    ended : (l tail : Words) → GoesOn l tail → ((rest : Words) → l ≡ codes "-dfs" ∷ rest → ⊥) → (command : Command) → Accepted (codes "run" ∷ f ∷ e ∷ w ∷ tail) command → ⊥
+    ended : (l tail : Words) → GoesOn l tail → ((s : Strategy) (rest : Words) → l ≡ strategy_word s ∷ rest → ⊥) → (command : Command) → Accepted (codes "run" ∷ f ∷ e ∷ w ∷ tail) command → ⊥
     ended _ _ ends none command a = cc (run_of (f ∷ e ∷ w ∷ []) command a).words_are
     ended _ _ (word u more later) none command a =
         let r = run_of (f ∷ e ∷ w ∷ u ∷ later) command a in
-        let same : u ≡ codes "-dfs" = cc r.words_are in
-        none more (ap (λ (m : List ℕ). m ∷ more) same)
+        let same : u ≡ strategy_word r.strategy = cc r.words_are in
+        none r.strategy more (ap (λ (m : List ℕ). m ∷ more) same)
 
 -- word 6 is the depth
-pub run_6 : {l1 l2 l3 l4 l5 : Words} {f e w : List ℕ} {n : ℕ} → l1 ≡ f ∷ l2 → l2 ≡ e ∷ l3 → l3 ≡ w ∷ l4 → IsNumber w (pos 1) (pos 1000000) (pos n) → l4 ≡ codes "-dfs" ∷ l5
+pub run_6 : (s : Strategy) → {l1 l2 l3 l4 l5 : Words} {f e w : List ℕ} {n : ℕ} → l1 ≡ f ∷ l2 → l2 ≡ e ∷ l3 → l3 ≡ w ∷ l4 → IsNumber w (pos 1) (pos 1000000) (pos n) → l4 ≡ strategy_word s ∷ l5
     → ((u : List ℕ) (rest : Words) (n : ℕ) → l5 ≡ u ∷ rest → IsNumber u (pos 1) (pos 1024) (pos n) → ⊥) → BadWord (codes "run" ∷ l1) 6
-run_6 {l1} {l2} {l3} {l4} {l5} {f} {e} {w} {n} e1 e2 e3 r e4 none =
-    bad_after (codes "run" ∷ f ∷ e ∷ w ∷ codes "-dfs" ∷ []) l5 (cc (e1, e2, e3, e4)) (begins_run 5 f e w text_of_one n 1 r deep) (λ tail command g a. ended l5 tail g none command a)
+run_6 s {l1} {l2} {l3} {l4} {l5} {f} {e} {w} {n} e1 e2 e3 r e4 none =
+    bad_after (codes "run" ∷ f ∷ e ∷ w ∷ strategy_word s ∷ []) l5 (cc (e1, e2, e3, e4)) (begins_run 5 f e w text_of_one s n 1 r deep) (λ tail command g a. ended l5 tail g none command a)
   where
     ended : (l tail : Words) → GoesOn l tail → ((u : List ℕ) (rest : Words) (n : ℕ) → l ≡ u ∷ rest → IsNumber u (pos 1) (pos 1024) (pos n) → ⊥)
-        → (command : Command) → Accepted (codes "run" ∷ f ∷ e ∷ w ∷ codes "-dfs" ∷ tail) command → ⊥
-    ended _ _ ends none command a = cc (run_of (f ∷ e ∷ w ∷ codes "-dfs" ∷ []) command a).words_are
+        → (command : Command) → Accepted (codes "run" ∷ f ∷ e ∷ w ∷ strategy_word s ∷ tail) command → ⊥
+    ended _ _ ends none command a = cc (run_of (f ∷ e ∷ w ∷ strategy_word s ∷ []) command a).words_are
     ended _ _ (word u more later) none command a =
-        let r = run_of (f ∷ e ∷ w ∷ codes "-dfs" ∷ u ∷ later) command a in
+        let r = run_of (f ∷ e ∷ w ∷ strategy_word s ∷ u ∷ later) command a in
         let same : r.d ≡ u = cc r.words_are in
         none u more (r.bounds).depth refl (subst (λ m. IsNumber m (pos 1) (pos 1024) (pos (r.bounds).depth)) same r.depth_is)
 
@@ -290,6 +341,38 @@ trace_4 {l1} {l2} {l3} {f} {e} e1 e2 none = bad_after (codes "trace" ∷ f ∷ e
   where
     ended : (tail : Words) → GoesOn [] tail → (command : Command) → Accepted (codes "trace" ∷ f ∷ e ∷ tail) command → ⊥
     ended _ ends command a = cc (trace_of (f ∷ e ∷ []) command a).words_are
+
+-- `replay`: words 2, 3 and 4 are any words, and nothing stands behind them
+pub replay_2 : {l1 : Words} → l1 ≡ [] → BadWord (codes "replay" ∷ l1) 2
+replay_2 {l1} none = bad_after (codes "replay" ∷ []) [] (ap (λ (l : Words). codes "replay" ∷ l) none) (begins_replay 1 [] [] []) (λ tail command g a. ended tail g command a)
+  where
+    ended : (tail : Words) → GoesOn [] tail → (command : Command) → Accepted (codes "replay" ∷ tail) command → ⊥
+    ended _ ends command a = cc (replay_of [] command a).words_are
+
+pub replay_3 : {l1 l2 : Words} {f : List ℕ} → l1 ≡ f ∷ l2 → l2 ≡ [] → BadWord (codes "replay" ∷ l1) 3
+replay_3 {l1} {l2} {f} e1 none = bad_after (codes "replay" ∷ f ∷ []) [] (cc (e1, none)) (begins_replay 2 f [] []) (λ tail command g a. ended tail g command a)
+  where
+    ended : (tail : Words) → GoesOn [] tail → (command : Command) → Accepted (codes "replay" ∷ f ∷ tail) command → ⊥
+    ended _ ends command a = cc (replay_of (f ∷ []) command a).words_are
+
+pub replay_4 : {l1 l2 l3 : Words} {f e : List ℕ} → l1 ≡ f ∷ l2 → l2 ≡ e ∷ l3 → l3 ≡ [] → BadWord (codes "replay" ∷ l1) 4
+replay_4 {l1} {l2} {l3} {f} {e} e1 e2 none = bad_after (codes "replay" ∷ f ∷ e ∷ []) [] (cc (e1, e2, none)) (begins_replay 3 f e []) (λ tail command g a. ended tail g command a)
+  where
+    ended : (tail : Words) → GoesOn [] tail → (command : Command) → Accepted (codes "replay" ∷ f ∷ e ∷ tail) command → ⊥
+    ended _ ends command a = cc (replay_of (f ∷ e ∷ []) command a).words_are
+
+pub replay_5 : {l1 l2 l3 l4 l5 : Words} {f e t u : List ℕ} → l1 ≡ f ∷ l2 → l2 ≡ e ∷ l3 → l3 ≡ t ∷ l4 → l4 ≡ u ∷ l5 → BadWord (codes "replay" ∷ l1) 5
+replay_5 {l1} {l2} {l3} {l4} {l5} {f} {e} {t} {u} e1 e2 e3 e4 =
+    bad_after (codes "replay" ∷ f ∷ e ∷ t ∷ []) (u ∷ l5) (cc (e1, e2, e3, e4)) (begins_replay 4 f e t) (λ tail command g a. ended (u ∷ l5) tail u l5 refl g command a)
+  where
+    ended : (l tail : Words) (v : List ℕ) (m : Words) → l ≡ v ∷ m → GoesOn l tail → (command : Command) → Accepted (codes "replay" ∷ f ∷ e ∷ t ∷ tail) command → ⊥
+    ended _ _ v m e0 ends command a = cc e0
+    ended _ _ v m e0 (word x more later) command a = let g = (replay_of (f ∷ e ∷ t ∷ x ∷ later) command a).words_are in cc g
+
+pub replay_whole : {l1 l2 l3 l4 : Words} {f e t : List ℕ} → l1 ≡ f ∷ l2 → l2 ≡ e ∷ l3 → l3 ≡ t ∷ l4 → l4 ≡ [] → Accepted (codes "replay" ∷ l1) (Replay (record { file = 2; entry = 3; tests = 4 }))
+replay_whole {l1} {l2} {l3} {l4} {f} {e} {t} e1 e2 e3 e4 =
+    let whole : codes "replay" ∷ l1 ≡ codes "replay" ∷ f ∷ e ∷ t ∷ [] = cc (e1, e2, e3, e4) in
+    subst (λ (ws : Words). Accepted ws (Replay (record { file = 2; entry = 3; tests = 4 }))) (sym whole) (replay f e t)
 
 -- ---- the options
 
@@ -339,18 +422,20 @@ module _ (table : List Row) (fixed : Words) (build : (options : Words) → Fits 
               omega (arith, le, length-append fixed (take m options), length_take m options within)
 
 -- a bad word of the options of `run`
-pub run_bad : {l1 l2 l3 l4 l5 l6 : Words} {f e w u : List ℕ} {n d m : ℕ} → l1 ≡ f ∷ l2 → l2 ≡ e ∷ l3 → l3 ≡ w ∷ l4 → IsNumber w (pos 1) (pos 1000000) (pos n) → l4 ≡ codes "-dfs" ∷ l5
-    → l5 ≡ u ∷ l6 → IsNumber u (pos 1) (pos 1024) (pos d) → IsBadAt run_options l6 m → BadWord (codes "run" ∷ l1) (m + 7)
-run_bad {l1} {l2} {l3} {l4} {l5} {l6} {f} {e} {w} {u} {n} {d} {m} e1 e2 e3 r e4 e5 s b =
-    let whole : codes "run" ∷ l1 ≡ codes "run" ∷ f ∷ e ∷ w ∷ codes "-dfs" ∷ u ∷ l6 = cc (e1, e2, e3, e4, e5) in
-    let bad : BadWord (codes "run" ∷ f ∷ e ∷ w ∷ codes "-dfs" ∷ u ∷ l6) (6 + m + 1) = bad_options run_options (codes "run" ∷ f ∷ e ∷ w ∷ codes "-dfs" ∷ u ∷ []) (λ o h. accepted_run f e w u o n d r s h) (λ o c a. parsed o c a) l6 m b in
-    subst (λ (ws : Words). BadWord ws (m + 7)) (sym whole) (subst (BadWord (codes "run" ∷ f ∷ e ∷ w ∷ codes "-dfs" ∷ u ∷ l6)) (omega arith) bad)
+pub run_bad : (s : Strategy) → {l1 l2 l3 l4 l5 l6 : Words} {f e w u : List ℕ} {n d m : ℕ} → l1 ≡ f ∷ l2 → l2 ≡ e ∷ l3 → l3 ≡ w ∷ l4 → IsNumber w (pos 1) (pos 1000000) (pos n) → l4 ≡ strategy_word s ∷ l5
+    → l5 ≡ u ∷ l6 → IsNumber u (pos 1) (pos 1024) (pos d) → IsBadAt (run_options s) l6 m → BadWord (codes "run" ∷ l1) (m + 7)
+run_bad s {l1} {l2} {l3} {l4} {l5} {l6} {f} {e} {w} {u} {n} {d} {m} e1 e2 e3 r e4 e5 t b =
+    let whole : codes "run" ∷ l1 ≡ codes "run" ∷ f ∷ e ∷ w ∷ strategy_word s ∷ u ∷ l6 = cc (e1, e2, e3, e4, e5) in
+    let bad : BadWord (codes "run" ∷ f ∷ e ∷ w ∷ strategy_word s ∷ u ∷ l6) (6 + m + 1) = bad_options (run_options s) (codes "run" ∷ f ∷ e ∷ w ∷ strategy_word s ∷ u ∷ []) (λ o h. accepted_run f e w u s o n d r t h) (λ o c a. parsed o c a) l6 m b in
+    subst (λ (ws : Words). BadWord ws (m + 7)) (sym whole) (subst (BadWord (codes "run" ∷ f ∷ e ∷ w ∷ strategy_word s ∷ u ∷ l6)) (omega arith) bad)
   where
-    parsed : (o : Words) (command : Command) → Accepted (codes "run" ∷ f ∷ e ∷ w ∷ codes "-dfs" ∷ u ∷ o) command → Fits run_options o
+    parsed : (o : Words) (command : Command) → Accepted (codes "run" ∷ f ∷ e ∷ w ∷ strategy_word s ∷ u ∷ o) command → Fits (run_options s) o
     parsed o command a =
-        let g = run_of (f ∷ e ∷ w ∷ codes "-dfs" ∷ u ∷ o) command a in
+        let g = run_of (f ∷ e ∷ w ∷ strategy_word s ∷ u ∷ o) command a in
         let same : g.options ≡ o = cc g.words_are in
-        subst (Fits run_options) same (run_fits g.options g.bounds g.budget g.named g.bounds_are g.budget_is g.after_is)
+        let word_same : strategy_word g.strategy ≡ strategy_word s = cc g.words_are in
+        let s_same : g.strategy ≡ s = same_strategy g.strategy s word_same in
+        subst (λ (k : Strategy). Fits (run_options k) o) s_same (subst (Fits (run_options g.strategy)) same (run_fits g.strategy g.options g.bounds g.budget g.seed g.named g.bounds_are g.budget_is g.seed_is g.after_is))
 
 -- a bad word of the options of `trace`
 pub trace_bad : {l1 l2 l3 l4 : Words} {f e w : List ℕ} {m : ℕ} → l1 ≡ f ∷ l2 → l2 ≡ e ∷ l3 → l3 ≡ w ∷ l4 → IsBadAt trace_options l4 m → BadWord (codes "trace" ∷ l1) (m + 5)
@@ -367,12 +452,12 @@ trace_bad {l1} {l2} {l3} {l4} {f} {e} {w} {m} e1 e2 e3 b =
 
 -- ---- the whole list
 
-pub run_whole : {l1 l2 l3 l4 l5 l6 : Words} {f e w u : List ℕ} {n budget : ℕ} {bounds : Limits} → l1 ≡ f ∷ l2 → l2 ≡ e ∷ l3 → l3 ≡ w ∷ l4 → IsNumber w (pos 1) (pos 1000000) (pos n) → l4 ≡ codes "-dfs" ∷ l5
-    → l5 ≡ u ∷ l6 → IsNumber u (pos 1) (pos 1024) (pos bounds.depth) → AreNamed run_options l6 → AreBounds l6 bounds → IsGiven l6 solver_option (pos budget) → IsFine PathText (behind (codes "-after") l6)
-    → Accepted (codes "run" ∷ l1) (run_words n bounds budget (place_behind (codes "-after") 6 l6))
-run_whole {l1} {l2} {l3} {l4} {l5} {l6} {f} {e} {w} {u} {n} {budget} {bounds} e1 e2 e3 r e4 e5 s a g b p =
-    let whole : codes "run" ∷ l1 ≡ codes "run" ∷ f ∷ e ∷ w ∷ codes "-dfs" ∷ u ∷ l6 = cc (e1, e2, e3, e4, e5) in
-    subst (λ (ws : Words). Accepted ws (run_words n bounds budget (place_behind (codes "-after") 6 l6))) (sym whole) (run f e w u l6 n budget bounds r s a g b p)
+pub run_whole : (s : Strategy) → {l1 l2 l3 l4 l5 l6 : Words} {f e w u : List ℕ} {n budget seed : ℕ} {bounds : Limits} → l1 ≡ f ∷ l2 → l2 ≡ e ∷ l3 → l3 ≡ w ∷ l4 → IsNumber w (pos 1) (pos 1000000) (pos n) → l4 ≡ strategy_word s ∷ l5
+    → l5 ≡ u ∷ l6 → IsNumber u (pos 1) (pos 1024) (pos bounds.depth) → AreNamed (run_options s) l6 → AreBounds l6 bounds → IsGiven l6 solver_option (pos budget) → IsSeed l6 seed → IsFine PathText (behind (codes "-after") l6)
+    → Accepted (codes "run" ∷ l1) (run_words n s bounds budget seed (place_behind (codes "-after") 6 l6))
+run_whole s {l1} {l2} {l3} {l4} {l5} {l6} {f} {e} {w} {u} {n} {budget} {seed} {bounds} e1 e2 e3 r e4 e5 t a g b k p =
+    let whole : codes "run" ∷ l1 ≡ codes "run" ∷ f ∷ e ∷ w ∷ strategy_word s ∷ u ∷ l6 = cc (e1, e2, e3, e4, e5) in
+    subst (λ (ws : Words). Accepted ws (run_words n s bounds budget seed (place_behind (codes "-after") 6 l6))) (sym whole) (run f e w u s l6 n budget seed bounds r t a g b k p)
 
 pub trace_whole : {l1 l2 l3 l4 : Words} {f e w : List ℕ} {bounds : Limits} → l1 ≡ f ∷ l2 → l2 ≡ e ∷ l3 → l3 ≡ w ∷ l4 → AreNamed trace_options l4 → AreBounds l4 bounds → IsGiven l4 depth_option (pos bounds.depth)
     → Accepted (codes "trace" ∷ l1) (trace_words bounds)
@@ -397,7 +482,7 @@ bad_word_once words m n a b =
 
 run_once : (words : Words) (c d : Command) → IsRun words c → IsRun words d → c ≡ d
 run_once words c d f g =
-    let same : codes "run" ∷ f.file ∷ f.entry ∷ f.n ∷ codes "-dfs" ∷ f.d ∷ f.options ≡ codes "run" ∷ g.file ∷ g.entry ∷ g.n ∷ codes "-dfs" ∷ g.d ∷ g.options = sym f.words_are ∙ g.words_are in
+    let same : codes "run" ∷ f.file ∷ f.entry ∷ f.n ∷ strategy_word f.strategy ∷ f.d ∷ f.options ≡ codes "run" ∷ g.file ∷ g.entry ∷ g.n ∷ strategy_word g.strategy ∷ g.d ∷ g.options = sym f.words_are ∙ g.words_are in
     let n_same : g.n ≡ f.n = cc same in
     let d_same : g.d ≡ f.d = cc same in
     let o_same : g.options ≡ f.options = cc same in
@@ -409,7 +494,9 @@ run_once words c d f g =
     let run_same : f.runs ≡ g.runs = cc runs in
     let budget : f.budget ≡ g.budget = cc budgets in
     let places : place_behind (codes "-after") 6 f.options ≡ place_behind (codes "-after") 6 g.options = ap (λ (ws : Words). place_behind (codes "-after") 6 ws) (sym o_same) in
-    let commands : run_words f.runs f.bounds f.budget (place_behind (codes "-after") 6 f.options) ≡ run_words g.runs g.bounds g.budget (place_behind (codes "-after") 6 g.options) = λ i. run_words (run_same i) (bounds i) (budget i) (places i) in
+    let strategies : f.strategy ≡ g.strategy = same_strategy f.strategy g.strategy (cc same) in
+    let seeds : f.seed ≡ g.seed = seed_once f.options f.seed g.seed f.seed_is (subst (λ (ws : Words). IsSeed ws g.seed) o_same g.seed_is) in
+    let commands : run_words f.runs f.strategy f.bounds f.budget f.seed (place_behind (codes "-after") 6 f.options) ≡ run_words g.runs g.strategy g.bounds g.budget g.seed (place_behind (codes "-after") 6 g.options) = λ i. run_words (run_same i) (strategies i) (bounds i) (budget i) (seeds i) (places i) in
     f.command_is ∙ commands ∙ sym g.command_is
 
 trace_once : (words : Words) (c d : Command) → IsTrace words c → IsTrace words d → c ≡ d
@@ -437,6 +524,13 @@ accepted_once words c d a b = by_form (form_of words c a) (form_of words d b)
     by_form (a_run f) (a_run g) = run_once words c d f g
     by_form (a_trace f) (a_trace g) = trace_once words c d f g
     by_form (a_make f) (a_make g) = make_once words c d f g
+    by_form (a_replay f) (a_replay g) = f.command_is ∙ sym g.command_is
+    by_form (a_replay f) (a_run g) = let e = sym f.words_are ∙ g.words_are in absurd (cc e)
+    by_form (a_replay f) (a_trace g) = let e = sym f.words_are ∙ g.words_are in absurd (cc e)
+    by_form (a_replay f) (a_make g) = let e = sym f.words_are ∙ g.words_are in absurd (cc e)
+    by_form (a_run f) (a_replay g) = let e = sym f.words_are ∙ g.words_are in absurd (cc e)
+    by_form (a_trace f) (a_replay g) = let e = sym f.words_are ∙ g.words_are in absurd (cc e)
+    by_form (a_make f) (a_replay g) = let e = sym f.words_are ∙ g.words_are in absurd (cc e)
     by_form (a_run f) (a_trace g) = let e = sym f.words_are ∙ g.words_are in absurd (cc e)
     by_form (a_run f) (a_make g) = let e = sym f.words_are ∙ g.words_are in absurd (cc e)
     by_form (a_trace f) (a_run g) = let e = sym f.words_are ∙ g.words_are in absurd (cc e)

@@ -70,6 +70,19 @@ found P (row ∷ rows) all name takes e = by_test (bytes_eq name row.0) refl (λ
         subst (λ s. P (name, s)) r (subst (λ m. P (m, row.1)) n all.0)
     by_test false t later e = later e
 
+-- a name that no option has doesn't stand
+pub absent : (options : List Row) (name : List ℕ) → takes_of options name ≡ None → (words : Words) → AreNamed options words → behind name words ≡ []
+absent options name none [] h = refl
+absent options name none (w ∷ []) h = absurd h
+absent options name none (w ∷ v ∷ rest) h = by_test (bytes_eq w name) refl (absent options name none rest h.1)
+  where
+    by_test : (b : Bool) → bytes_eq w name ≡ b → behind name rest ≡ [] → (if b then v ∷ behind name rest else behind name rest) ≡ []
+    by_test true e k = absurd (some_not_none (subst (λ m. IsSome (takes_of options m)) (same_name w name e) h.0) none)
+      where
+        some_not_none : IsSome (takes_of options name) → takes_of options name ≡ None → ⊥
+        some_not_none some e = cc (some, e)
+    by_test false e k = k
+
 -- ---- how many words there are
 
 abbrev total : List Row → Words → ℕ

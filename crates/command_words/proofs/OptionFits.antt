@@ -1,12 +1,12 @@
 -- What one more pair of words makes of options that fit.
 use Rattle.std.proofs.Common.{◌≡◌, ◌∙◌, sym, ap, refl, subst, ℕ, ◌+◌, ◌<◌, ◌^◌, ◌⊎◌, inl, inr, ⊎_elim, ℤ, pos, negsuc, ◌≤ℤ◌, Bool, true, false, List, [], ◌∷◌, ◌++◌, take, length, Some, None, IsSome, arith, codes, append_assoc, length-append}
 use Rattle.std.specs.Prelude.{bytes_eq}
-use Rattle.std.specs.Fmt.{signed_decimal}
+use Rattle.std.specs.Fmt.{decimal, signed_decimal}
 use Rattle.std.proofs.lemmas.List.{take_at}
 use lib.Signed.{mag}
 use Rattle.command_words.specs.declared.words.Range.{Range}
 use Rattle.command_words.specs.declared.words.Takes.{Takes}
-use Rattle.command_words.specs.declared.words.Takes.TheVariants.{Number, PathText}
+use Rattle.command_words.specs.declared.words.Takes.TheVariants.{Number, Wide, PathText}
 use Rattle.command_words.specs.Words.{Row, NumberRow, takes_of, AreNamed, behind, IsFine, IsGiven, IsValue, min_option, max_option}
 use Rattle.command_words.specs.Options.{IsTable, Fits, FitsWith, IsBadAt}
 use Rattle.command_words.proofs.Numerals.{text_once, mag_between}
@@ -126,31 +126,29 @@ module _ (options : List Row) (table : IsTable options) (good : Words) (w : List
       let v = signed_decimal range.default in
       (v ∷ [], subst (Fits options) (sym (append_assoc good (w ∷ []) (v ∷ []))) (new_fits default_new default_order))
 
--- with the empty path behind an option that takes one they fit
-module _ (options : List Row) (table : IsTable options) (good : Words) (w : List ℕ) (f : Fits options good) (e : takes_of options w ≡ Some PathText) (o : behind w good ≡ []) where
-  path_new : IsNew options good w (codes "~") PathText
-  path_new = record { fits = f; finds = e; once = o; value = ([], record { text = refl; bytes = λ i x h. absurd (omega (arith, h)) }) }
-
+-- with a value behind an option that takes no number of a range they fit
+module _ (options : List Row) (table : IsTable options) (good : Words) (w v : List ℕ) (takes : Takes) (other : (range : Range) → takes ≡ Number range → ⊥) (new : IsNew options good w v takes) where
   no_min : w ≡ codes "-min" → ⊥
-  no_min same = let named : takes_of options w ≡ Some (Number min_option.1) = ap (takes_of options) same ∙ table.has_min in cc (e, named)
+  no_min same = let named : takes_of options w ≡ Some (Number min_option.1) = ap (takes_of options) same ∙ table.has_min in other min_option.1 (cc (new.finds, named))
 
   no_max : w ≡ codes "-max" → ⊥
-  no_max same = let named : takes_of options w ≡ Some (Number max_option.1) = ap (takes_of options) same ∙ table.has_max in cc (e, named)
+  no_max same = let named : takes_of options w ≡ Some (Number max_option.1) = ap (takes_of options) same ∙ table.has_max in other max_option.1 (cc (new.finds, named))
 
-  path_order : (lo hi : ℤ) → IsGiven (good ++ w ∷ codes "~" ∷ []) min_option lo → IsGiven (good ++ w ∷ codes "~" ∷ []) max_option hi → lo ≤ℤ hi
-  path_order lo hi g h = by_min (was_given path_new min_option lo g) (was_given path_new max_option hi h)
+  value_order : (lo hi : ℤ) → IsGiven (good ++ w ∷ v ∷ []) min_option lo → IsGiven (good ++ w ∷ v ∷ []) max_option hi → lo ≤ℤ hi
+  value_order lo hi g h = by_min (was_given new min_option lo g) (was_given new max_option hi h)
     where
-      by_min : (codes "~" ≡ signed_decimal lo × (w ≡ codes "-min")) ⊎ IsGiven good min_option lo → (codes "~" ≡ signed_decimal hi × (w ≡ codes "-max")) ⊎ IsGiven good max_option hi → lo ≤ℤ hi
+      by_min : (v ≡ signed_decimal lo × (w ≡ codes "-min")) ⊎ IsGiven good min_option lo → (v ≡ signed_decimal hi × (w ≡ codes "-max")) ⊎ IsGiven good max_option hi → lo ≤ℤ hi
       by_min (inl p) k = absurd (no_min p.1)
       by_min (inr g0) (inl p) = absurd (no_max p.1)
-      by_min (inr g0) (inr h0) = f.ordered lo hi g0 h0
+      by_min (inr g0) (inr h0) = (new.fits).ordered lo hi g0 h0
 
-  path_fits : FitsWith options (good ++ w ∷ [])
-  path_fits = (codes "~" ∷ [], subst (Fits options) (sym (append_assoc good (w ∷ []) (codes "~" ∷ []))) (new_fits path_new path_order))
+  value_fits : FitsWith options (good ++ w ∷ [])
+  value_fits = (v ∷ [], subst (Fits options) (sym (append_assoc good (w ∷ []) (v ∷ []))) (new_fits new value_order))
 
 pub default_fits : (options : List Row) → IsTable options → (good : Words) (w : List ℕ) (takes : Takes) → Fits options good → takes_of options w ≡ Some takes → behind w good ≡ [] → FitsWith options (good ++ w ∷ [])
 default_fits options table good w (Number range) f e o = number_fits options table good w range f e o
-default_fits options table good w PathText f e o = path_fits options table good w f e o
+default_fits options table good w Wide f e o = value_fits options table good w (decimal 0) Wide (λ range h. absurd (cc h)) (record { fits = f; finds = e; once = o; value = (0, record { text = refl; fits = omega arith }) })
+default_fits options table good w PathText f e o = value_fits options table good w (codes "~") PathText (λ range h. absurd (cc h)) (record { fits = f; finds = e; once = o; value = ([], record { text = refl; bytes = λ i x h. absurd (omega (arith, h)) }) })
 
 -- ---- bad words
 

@@ -1,15 +1,17 @@
 -- The two tables of options, how many words they take, and the bounds that they give.
-use Rattle.std.proofs.Common.{◌≡◌, ◌∙◌, sym, refl, subst, ℕ, ◌+◌, ◌<◌, ◌≤◌, ◌^◌, ◌⊎◌, inl, inr, ℤ, pos, negsuc, ◌≤ℤ◌, List, [], ◌∷◌, ◌++◌, take, length, arith, codes, length-append}
-use Rattle.std.specs.Fmt.{signed_decimal}
+use Rattle.std.proofs.Common.{◌≡◌, ◌∙◌, sym, ap, refl, subst, ℕ, ◌+◌, ◌<◌, ◌≤◌, ◌^◌, ◌⊎◌, inl, inr, ℤ, pos, negsuc, ◌≤ℤ◌, List, [], ◌∷◌, ◌++◌, take, length, Some, arith, codes, length-append}
+use Rattle.std.specs.Fmt.{decimal, signed_decimal}
 use Rattle.std.proofs.lemmas.Int.{ints}
 use lib.Signed.{mag}
 use Rattle.cc_base.specs.Limits.{Limits}
+use Rattle.cc_model.specs.declared.commands.Strategy.{Strategy}
+use Rattle.cc_model.specs.declared.commands.Strategy.TheVariants.{Dfs, Random, UniformRandom, Cfg}
 use Rattle.command_words.specs.declared.words.Range.{Range}
-use Rattle.command_words.specs.declared.words.Takes.TheVariants.{Number, PathText}
-use Rattle.command_words.specs.Words.{Row, NumberRow, row, after_option, AreNamed, behind, IsFine, IsGiven, AreBounds, min_option, max_option, objects_option, steps_option, depth_option, solver_option, run_options, trace_options}
+use Rattle.command_words.specs.declared.words.Takes.TheVariants.{Number, Wide, PathText}
+use Rattle.command_words.specs.Words.{Row, NumberRow, row, seed_option, after_option, takes_of, AreNamed, behind, IsFine, IsGiven, IsSeed, IsWide, AreBounds, min_option, max_option, objects_option, steps_option, depth_option, solver_option, search_options, walk_options, run_options, trace_options}
 use Rattle.command_words.specs.Options.{IsTable, Fits, FitsWith, IsBadAt}
-use Rattle.command_words.proofs.NamedWords.{Words, length_take, found, named_count, at_most_once}
-use Rattle.command_words.proofs.Numerals.{text_once, mag_between}
+use Rattle.command_words.proofs.NamedWords.{Words, length_take, found, named_count, at_most_once, absent}
+use Rattle.command_words.proofs.Numerals.{text_once, wide_once, mag_between}
 use Rattle.command_words.proofs.OptionFits.{option_given, given_fine}
 
 HasDefault : NumberRow → Type 0
@@ -27,16 +29,37 @@ no_number : HasDefaults after_option
 unfolding HasDefaults
 no_number range e = absurd (cc e)
 
-pub run_table : IsTable run_options
+no_range : HasDefaults seed_option
+unfolding HasDefaults
+no_range range e = absurd (cc e)
+
+pub search_table : IsTable search_options
 unfolding HasDefault HasDefaults
-run_table = record {
+search_table = record {
   has_min = refl;
   has_max = refl;
   has_objects = refl;
   has_steps = refl;
-  defaults = λ name range e. found HasDefaults run_options
+  defaults = λ name range e. found HasDefaults search_options
       (default_of min_option (omega (arith, ints), omega (arith, ints)), (default_of max_option (omega (arith, ints), omega (arith, ints)), (default_of objects_option (omega (arith, ints), omega (arith, ints)), (default_of steps_option (omega (arith, ints), omega (arith, ints)), (default_of solver_option (omega (arith, ints), omega (arith, ints)), (no_number, tt)))))) name (Number range) e range refl;
 }
+
+pub walk_table : IsTable walk_options
+unfolding HasDefault HasDefaults
+walk_table = record {
+  has_min = refl;
+  has_max = refl;
+  has_objects = refl;
+  has_steps = refl;
+  defaults = λ name range e. found HasDefaults walk_options
+      (default_of min_option (omega (arith, ints), omega (arith, ints)), (default_of max_option (omega (arith, ints), omega (arith, ints)), (default_of objects_option (omega (arith, ints), omega (arith, ints)), (default_of steps_option (omega (arith, ints), omega (arith, ints)), (default_of solver_option (omega (arith, ints), omega (arith, ints)), (no_range, tt)))))) name (Number range) e range refl;
+}
+
+pub run_table : (strategy : Strategy) → IsTable (run_options strategy)
+run_table Dfs = search_table
+run_table Random = walk_table
+run_table UniformRandom = walk_table
+run_table Cfg = walk_table
 
 pub trace_table : IsTable trace_options
 unfolding HasDefault HasDefaults
@@ -51,16 +74,33 @@ trace_table = record {
 
 -- ---- how many words there are
 
-pub run_short : (words : Words) → Fits run_options words → length words ≤ 12
-run_short words f =
+search_short : (words : Words) → Fits search_options words → length words ≤ 12
+search_short words f =
     let a = at_most_once (Number min_option.1) (behind (codes "-min") words) (f.given (codes "-min") (Number min_option.1) refl) in
     let b = at_most_once (Number max_option.1) (behind (codes "-max") words) (f.given (codes "-max") (Number max_option.1) refl) in
     let d = at_most_once (Number objects_option.1) (behind (codes "-objects") words) (f.given (codes "-objects") (Number objects_option.1) refl) in
     let e = at_most_once (Number steps_option.1) (behind (codes "-steps") words) (f.given (codes "-steps") (Number steps_option.1) refl) in
     let g = at_most_once (Number solver_option.1) (behind (codes "-solver") words) (f.given (codes "-solver") (Number solver_option.1) refl) in
     let h = at_most_once PathText (behind (codes "-after") words) (f.given (codes "-after") PathText refl) in
-    let all = named_count run_options words f.named in
+    let all = named_count search_options words f.named in
     omega (arith, all, a, b, d, e, g, h)
+
+walk_short : (words : Words) → Fits walk_options words → length words ≤ 12
+walk_short words f =
+    let a = at_most_once (Number min_option.1) (behind (codes "-min") words) (f.given (codes "-min") (Number min_option.1) refl) in
+    let b = at_most_once (Number max_option.1) (behind (codes "-max") words) (f.given (codes "-max") (Number max_option.1) refl) in
+    let d = at_most_once (Number objects_option.1) (behind (codes "-objects") words) (f.given (codes "-objects") (Number objects_option.1) refl) in
+    let e = at_most_once (Number steps_option.1) (behind (codes "-steps") words) (f.given (codes "-steps") (Number steps_option.1) refl) in
+    let g = at_most_once (Number solver_option.1) (behind (codes "-solver") words) (f.given (codes "-solver") (Number solver_option.1) refl) in
+    let h = at_most_once Wide (behind (codes "-seed") words) (f.given (codes "-seed") Wide refl) in
+    let all = named_count walk_options words f.named in
+    omega (arith, all, a, b, d, e, g, h)
+
+pub run_short : (strategy : Strategy) (words : Words) → Fits (run_options strategy) words → length words ≤ 12
+run_short Dfs words f = search_short words f
+run_short Random words f = walk_short words f
+run_short UniformRandom words f = walk_short words f
+run_short Cfg words f = walk_short words f
 
 trace_short : (words : Words) → Fits trace_options words → length words ≤ 10
 trace_short words f =
@@ -83,8 +123,8 @@ place_short options most short words n b =
     in_words (inl p) = omega (arith, p.0)
     in_words (inr p) = omega (arith, p.0)
 
-pub run_place : (words : Words) (n : ℕ) → IsBadAt run_options words n → n ≤ 12
-run_place words n b = place_short run_options 12 run_short words n b
+pub run_place : (strategy : Strategy) (words : Words) (n : ℕ) → IsBadAt (run_options strategy) words n → n ≤ 12
+run_place strategy words n b = place_short (run_options strategy) 12 (run_short strategy) words n b
 
 pub trace_place : (words : Words) (n : ℕ) → IsBadAt trace_options words n → n ≤ 10
 trace_place words n b = place_short trace_options 10 trace_short words n b
@@ -164,12 +204,68 @@ in_order words bounds lo hi g l h =
 abbrev Fine : Words → Row → Type 0
 Fine words option = IsFine option.1 (behind option.0 words)
 
-pub run_fits : (words : Words) (bounds : Limits) (budget : ℕ) → AreNamed run_options words → AreBounds words bounds → IsGiven words solver_option (pos budget) → IsFine PathText (behind (codes "-after") words) → Fits run_options words
-run_fits words bounds budget n g b a = record {
+search_fits : (words : Words) (bounds : Limits) (budget : ℕ) → AreNamed search_options words → AreBounds words bounds → IsGiven words solver_option (pos budget) → IsFine PathText (behind (codes "-after") words) → Fits search_options words
+search_fits words bounds budget n g b a = record {
   named = n;
-  given = λ name takes e. found (Fine words) run_options (given_fine words min_option bounds.lo g.lo, (given_fine words max_option bounds.hi g.hi, (given_fine words objects_option (pos bounds.objects) g.objects, (given_fine words steps_option (pos bounds.steps) g.steps, (given_fine words solver_option (pos budget) b, (a, tt)))))) name takes e;
+  given = λ name takes e. found (Fine words) search_options (given_fine words min_option bounds.lo g.lo, (given_fine words max_option bounds.hi g.hi, (given_fine words objects_option (pos bounds.objects) g.objects, (given_fine words steps_option (pos bounds.steps) g.steps, (given_fine words solver_option (pos budget) b, (a, tt)))))) name takes e;
   ordered = λ lo hi l h. in_order words bounds lo hi g l h;
 }
+
+-- the seed is one that the option takes, or isn't given
+seed_fine : (words : Words) (seed : ℕ) → IsSeed words seed → IsFine Wide (behind (codes "-seed") words)
+seed_fine words seed g = by_stand g.stands
+  where
+    by_stand : (behind (codes "-seed") words ≡ decimal seed ∷ []) ⊎ ((behind (codes "-seed") words ≡ []) × (seed ≡ 0)) → IsFine Wide (behind (codes "-seed") words)
+    by_stand (inl e) = inr (decimal seed, e, (seed, record { text = refl; fits = g.fits }))
+    by_stand (inr p) = inl p.0
+
+walk_fits : (words : Words) (bounds : Limits) (budget seed : ℕ) → AreNamed walk_options words → AreBounds words bounds → IsGiven words solver_option (pos budget) → IsSeed words seed → Fits walk_options words
+walk_fits words bounds budget seed n g b a = record {
+  named = n;
+  given = λ name takes e. found (Fine words) walk_options (given_fine words min_option bounds.lo g.lo, (given_fine words max_option bounds.hi g.hi, (given_fine words objects_option (pos bounds.objects) g.objects, (given_fine words steps_option (pos bounds.steps) g.steps, (given_fine words solver_option (pos budget) b, (seed_fine words seed a, tt)))))) name takes e;
+  ordered = λ lo hi l h. in_order words bounds lo hi g l h;
+}
+
+pub run_fits : (strategy : Strategy) (words : Words) (bounds : Limits) (budget seed : ℕ) → AreNamed (run_options strategy) words → AreBounds words bounds → IsGiven words solver_option (pos budget) → IsSeed words seed → IsFine PathText (behind (codes "-after") words)
+    → Fits (run_options strategy) words
+run_fits Dfs words bounds budget seed n g b s a = search_fits words bounds budget n g b a
+run_fits Random words bounds budget seed n g b s a = walk_fits words bounds budget seed n g b s
+run_fits UniformRandom words bounds budget seed n g b s a = walk_fits words bounds budget seed n g b s
+run_fits Cfg words bounds budget seed n g b s a = walk_fits words bounds budget seed n g b s
+
+-- options that fit give a seed
+wide_seed : (words : Words) → IsFine Wide (behind (codes "-seed") words) → (n : ℕ) × IsSeed words n
+wide_seed words (inl e) = (0, record { stands = inr (e, refl); fits = omega arith })
+wide_seed words (inr (word, e, (n, w))) = (n, record { stands = inl (e ∙ ap (λ (v : List ℕ). v ∷ []) w.text); fits = w.fits })
+
+pub has_seed : (strategy : Strategy) (words : Words) → Fits (run_options strategy) words → (n : ℕ) × IsSeed words n
+has_seed Dfs words f = wide_seed words (inl (absent search_options (codes "-seed") refl words f.named))
+has_seed Random words f = wide_seed words (f.given (codes "-seed") Wide refl)
+has_seed UniformRandom words f = wide_seed words (f.given (codes "-seed") Wide refl)
+has_seed Cfg words f = wide_seed words (f.given (codes "-seed") Wide refl)
+
+pub seed_once : (words : Words) (m n : ℕ) → IsSeed words m → IsSeed words n → m ≡ n
+seed_once words m n a b = by_stand a.stands b.stands
+  where
+    by_stand : (behind (codes "-seed") words ≡ decimal m ∷ []) ⊎ ((behind (codes "-seed") words ≡ []) × (m ≡ 0)) → (behind (codes "-seed") words ≡ decimal n ∷ []) ⊎ ((behind (codes "-seed") words ≡ []) × (n ≡ 0)) → m ≡ n
+    by_stand (inl d) (inl e) = wide_once m n a.fits b.fits (cc (d, e))
+    by_stand (inl d) (inr e) = absurd (cc (d, e.0))
+    by_stand (inr d) (inl e) = absurd (cc (d.0, e))
+    by_stand (inr d) (inr e) = d.1 ∙ sym e.1
+
+-- the path is fine, or not given
+pub has_path : (strategy : Strategy) (words : Words) → Fits (run_options strategy) words → IsFine PathText (behind (codes "-after") words)
+has_path Dfs words f = f.given (codes "-after") PathText refl
+has_path Random words f = inl (absent walk_options (codes "-after") refl words f.named)
+has_path UniformRandom words f = inl (absent walk_options (codes "-after") refl words f.named)
+has_path Cfg words f = inl (absent walk_options (codes "-after") refl words f.named)
+
+-- the solver's budget is an option of each
+pub solver_there : (strategy : Strategy) → takes_of (run_options strategy) (codes "-solver") ≡ Some (Number solver_option.1)
+solver_there Dfs = refl
+solver_there Random = refl
+solver_there UniformRandom = refl
+solver_there Cfg = refl
 
 pub trace_fits : (words : Words) (bounds : Limits) → AreNamed trace_options words → AreBounds words bounds → IsGiven words depth_option (pos bounds.depth) → Fits trace_options words
 trace_fits words bounds n g d = record {

@@ -2,16 +2,17 @@
 
 ghost use Rattle.std.specs.Prelude.{◌≡◌, ℕ, ◌^◌, ◌<◌, ◌≤◌, ◌≤ℤ◌, ℤ, pos, List, [], ◌∷◌, All, map, IsTrue, IfOk, IfErr, IfSome, IfNone, codes, Some, Ok, Err, take, drop, length, ◌+◌};
 ghost use Rattle.std.specs.Fmt.{signed_decimal};
-ghost use Rattle.command_words.specs.Words.{texts, IsNumber, IsPath, IsValue, Accepted, BadWord, takes_of, behind, place_behind, IsGiven, min_option, max_option, AreBounds, run_options, trace_options};
+ghost use Rattle.command_words.specs.Words.{texts, IsNumber, IsWide, IsPath, IsValue, Accepted, BadWord, takes_of, behind, place_behind, IsGiven, IsSeed, min_option, max_option, AreBounds, search_options, walk_options, run_options, trace_options, strategy_word};
 ghost use Rattle.command_words.specs.Options.{seen, IsTable, Fits, IsBadAt};
 ghost use Rattle.cc_base.specs.Limits.{Limits};
 ghost use Rattle.cc_base.specs.Outcomes.{byte_of, HasByte};
 ghost use Rattle.cc_base.specs.Paths.{Path};
 ghost use Rattle.cc_base.specs.declared.outcomes.Outcome.{Outcome as Seen};
 ghost use Rattle.cc_model.specs.declared.commands.Command.{Command};
+ghost use Rattle.cc_model.specs.declared.commands.Strategy.{Strategy as Choosing};
 
 use cc_model::base::{Bounds, Outcome};
-use cc_model::{Command, RunWords, Strategy, TraceWords};
+use cc_model::{Command, ReplayWords, RunWords, Strategy, TraceWords};
 use itoa::Buffer;
 
 /// The least and the greatest number that an option takes, and its number where it is not given.
@@ -41,6 +42,29 @@ fn number_of(word: &str, low: i32, high: i32) -> Option<i32>
     } else {
         None
     }
+}
+
+/// The number of 64 bits whose decimal text `word` is; None exactly where there is none.
+fn wide_of(word: &str) -> Option<u64>
+    ensures some { IfSome result (λ n. IsWide word.now n) }
+    ensures only { (n : ℕ) → IsWide word.now n → result ≡ Some n }
+    ensures none { IfNone result ((n : ℕ) → IsWide word.now n → ⊥) }
+{
+    let number = word.parse::<u64>().ok()?;
+    let mut buffer = Buffer::new();
+    if buffer.format(number) == word {
+        Some(number)
+    } else {
+        None
+    }
+}
+
+/// Whether `word` is the decimal text of a number of 64 bits.
+fn is_wide(word: &str) -> bool
+    ensures yes { IsTrue result → (n : ℕ) × IsWide word.now n }
+    ensures no { (n : ℕ) → IsWide word.now n → IsTrue result }
+{
+    wide_of(word).is_some()
 }
 
 /// Whether `word` is the decimal text of a number of the range.
@@ -88,6 +112,8 @@ fn is_path(word: &str) -> bool
 enum Takes {
     /// A number of the range.
     Number(Range),
+    /// A number of 64 bits without a sign.
+    Wide,
     /// A path.
     PathText,
 }
@@ -99,6 +125,7 @@ fn is_value(takes: Takes, word: &str) -> bool
 {
     match takes {
         Takes::Number(range) => is_in(word, range),
+        Takes::Wide => is_wide(word),
         Takes::PathText => is_path(word),
     }
 }
@@ -169,6 +196,16 @@ fn number_given(words: &[String], name: &str, range: Range) -> i32
         return range.default;
     };
     number_of(value, range.least, range.greatest).unwrap_or(range.default)
+}
+
+/// The seed, among options that a form takes.
+fn seed_given(words: &[String]) -> u64
+    ensures { (n : ℕ) → IsSeed (texts words.now) n → result ≡ n }
+{
+    let Some(value) = value_behind(words, "-seed") else {
+        return 0;
+    };
+    wide_of(value).unwrap_or(0)
 }
 
 /// The least number of an input, if `-min` says nothing else.
@@ -281,14 +318,24 @@ const SOLVER: Range = Range {
     default: 20_000,
 };
 
-/// The options of `run`.
-const RUN_OPTIONS: [(&str, Takes); 6] = [
+/// The options of `run` with `-dfs`.
+const SEARCH_OPTIONS: [(&str, Takes); 6] = [
     ("-min", Takes::Number(MIN)),
     ("-max", Takes::Number(MAX)),
     ("-objects", Takes::Number(OBJECTS)),
     ("-steps", Takes::Number(STEPS)),
     ("-solver", Takes::Number(SOLVER)),
     ("-after", Takes::PathText),
+];
+
+/// The options of `run` with a walk.
+const WALK_OPTIONS: [(&str, Takes); 6] = [
+    ("-min", Takes::Number(MIN)),
+    ("-max", Takes::Number(MAX)),
+    ("-objects", Takes::Number(OBJECTS)),
+    ("-steps", Takes::Number(STEPS)),
+    ("-solver", Takes::Number(SOLVER)),
+    ("-seed", Takes::Wide),
 ];
 
 /// The options of `trace`.
@@ -303,13 +350,34 @@ const TRACE_OPTIONS: [(&str, Takes); 5] = [
 /// How many branches a made program has at most.
 const MAX_BRANCHES: i32 = 1024;
 
-/// The place of the first bad word of the options of `run`; None where none is bad.
-fn bad_run_option(words: &[String]) -> Option<usize>
-    ensures some { IfSome result (λ n. IsBadAt run_options (texts words.now) n) }
-    ensures small { IfSome result (λ n. n ≤ 12) }
-    ensures none { IfNone result (Fits run_options (texts words.now)) }
+/// The place of the first bad word of the options of `run` with `-dfs`; None where none is bad.
+fn bad_search_option(words: &[String]) -> Option<usize>
+    ensures some { IfSome result (λ n. IsBadAt search_options (texts words.now) n) }
+    ensures none { IfNone result (Fits search_options (texts words.now)) }
 {
-    bad_option(&RUN_OPTIONS, words, 0)
+    bad_option(&SEARCH_OPTIONS, words, 0)
+}
+
+/// The place of the first bad word of the options of `run` with a walk; None where none is bad.
+fn bad_walk_option(words: &[String]) -> Option<usize>
+    ensures some { IfSome result (λ n. IsBadAt walk_options (texts words.now) n) }
+    ensures none { IfNone result (Fits walk_options (texts words.now)) }
+{
+    bad_option(&WALK_OPTIONS, words, 0)
+}
+
+/// The place of the first bad word of the options of `run`; None where none is bad.
+fn bad_run_option(strategy: Strategy, words: &[String]) -> Option<usize>
+    ensures some { IfSome result (λ n. IsBadAt (run_options strategy) (texts words.now) n) }
+    ensures small { IfSome result (λ n. n ≤ 12) }
+    ensures none { IfNone result (Fits (run_options strategy) (texts words.now)) }
+{
+    match strategy {
+        Strategy::Dfs => bad_search_option(words),
+        Strategy::Random => bad_walk_option(words),
+        Strategy::UniformRandom => bad_walk_option(words),
+        Strategy::Cfg => bad_walk_option(words),
+    }
 }
 
 /// The place of the first bad word of the options of `trace`; None where none is bad.
@@ -382,6 +450,51 @@ fn behind_number(words: &[String], high: i32) -> Option<NumberAndRest<'_>>
     })
 }
 
+/// The strategy whose word this is; None exactly where there is none.
+fn strategy_of(word: &str) -> Option<Strategy>
+    ensures some { IfSome result (λ s. word.now ≡ strategy_word s) }
+    ensures none { IfNone result ((s : Choosing) → word.now ≡ strategy_word s → ⊥) }
+{
+    if word == "-dfs" {
+        return Some(Strategy::Dfs);
+    }
+    if word == "-random" {
+        return Some(Strategy::Random);
+    }
+    if word == "-uniform_random" {
+        return Some(Strategy::UniformRandom);
+    }
+    if word == "-cfg" {
+        Some(Strategy::Cfg)
+    } else {
+        None
+    }
+}
+
+/// A strategy, and the words behind it.
+#[derive(Clone, Copy)]
+struct StrategyAndRest<'a> {
+    strategy: Strategy,
+    rest: &'a [String],
+}
+
+/// The strategy that the first word is, and the words behind it; None where it is none.
+fn behind_strategy(words: &[String]) -> Option<StrategyAndRest<'_>>
+    ensures some { IfSome result (λ r. texts words.now ≡ strategy_word r.strategy ∷ texts r.rest.now) }
+    ensures none { IfNone result ((s : Choosing) (rest : List (List ℕ)) → texts words.now ≡ strategy_word s ∷ rest → ⊥) }
+{
+    let Some(first) = first_of(words) else {
+        return None;
+    };
+    let Some(strategy) = strategy_of(first.word) else {
+        return None;
+    };
+    Some(StrategyAndRest {
+        strategy,
+        rest: first.rest,
+    })
+}
+
 /// The command of the words behind `run`.
 fn read_run(words: &[String]) -> Result<Command, u32>
     ensures accepted { IfOk result (λ c. Accepted (codes "run" ∷ texts words.now) c) }
@@ -396,24 +509,24 @@ fn read_run(words: &[String]) -> Result<Command, u32>
     let Some(runs) = behind_number(entry.rest, MAX_RUNS) else {
         return Err(4);
     };
-    let Some(depth_on) = behind_keyword(runs.rest, "-dfs") else {
+    let Some(chosen) = behind_strategy(runs.rest) else {
         return Err(5);
     };
-    let Some(depth) = behind_number(depth_on, MAX_DEPTH) else {
+    let Some(depth) = behind_number(chosen.rest, MAX_DEPTH) else {
         return Err(6);
     };
     let options = depth.rest;
-    if let Some(bad) = bad_run_option(options) {
+    if let Some(bad) = bad_run_option(chosen.strategy, options) {
         return Err(bad as u32 + 7);
     }
     Ok(Command::Run(RunWords {
         file: 2,
         entry: 3,
         runs: runs.number,
-        strategy: Strategy::Dfs,
+        strategy: chosen.strategy,
         bounds: bounds_with(options, depth.number),
         budget: natural_given(options, "-solver", SOLVER) as u64,
-        seed: 0,
+        seed: seed_given(options),
         after: place_behind(options, "-after", 6),
     }))
 }
@@ -445,6 +558,30 @@ fn read_trace(words: &[String]) -> Result<Command, u32>
     }))
 }
 
+/// The command of the words behind `replay`.
+fn read_replay(words: &[String]) -> Result<Command, u32>
+    ensures accepted { IfOk result (λ c. Accepted (codes "replay" ∷ texts words.now) c) }
+    ensures bad { IfErr result (λ n. BadWord (codes "replay" ∷ texts words.now) n) }
+{
+    let Some(file) = first_of(words) else {
+        return Err(2);
+    };
+    let Some(entry) = first_of(file.rest) else {
+        return Err(3);
+    };
+    let Some(tests) = first_of(entry.rest) else {
+        return Err(4);
+    };
+    match first_of(tests.rest) {
+        Some(_word) => Err(5),
+        None => Ok(Command::Replay(ReplayWords {
+            file: 2,
+            entry: 3,
+            tests: 4,
+        })),
+    }
+}
+
 /// The command of the words behind `make`.
 fn read_make(words: &[String]) -> Result<Command, u32>
     ensures accepted { IfOk result (λ c. Accepted (codes "make" ∷ texts words.now) c) }
@@ -470,6 +607,9 @@ fn read(words: &[String]) -> Result<Command, u32>
     if let Some(rest) = behind_keyword(words, "trace") {
         return read_trace(rest);
     }
+    if let Some(rest) = behind_keyword(words, "replay") {
+        return read_replay(rest);
+    }
     let Some(rest) = behind_keyword(words, "make") else {
         return Err(1);
     };
@@ -478,12 +618,13 @@ fn read(words: &[String]) -> Result<Command, u32>
 
 /// The command that the words of a command line give, the program's name left out.
 ///
-/// The forms are `run FILE ENTRY N -dfs D` and `trace FILE ENTRY MAP`, with options behind them, and `make N`. FILE, ENTRY and
-/// MAP are any words, N of `run` is from 1 to 1,000,000, D and N of `make` from 1 to 1,024. The options stand in any order, each
-/// at most once and each with a word behind it: `-min` and `-max` any number of 32 bits, the first at most the second, where they
-/// are not given the least and the greatest; `-objects` 1 to 25, else 8; `-steps` 1 to 1,000,000, else 100,000; for `run` also
-/// `-solver` 1 to 100,000,000, else 20,000, and `-after` one or more of the outcomes' bytes `! + - . F T a..z`, or `~`; for
-/// `trace` `-depth` 1 to 1,024, else 1,024.
+/// The forms are `run FILE ENTRY N STRATEGY D` and `trace FILE ENTRY MAP`, with options behind them, `replay FILE ENTRY TESTS`,
+/// and `make N`. FILE, ENTRY, MAP and TESTS are any words, N of `run` is from 1 to 1,000,000, D and N of `make` from 1 to 1,024,
+/// STRATEGY is `-dfs`, or a walk: `-random`, `-uniform_random` or `-cfg`. The options stand in any order, each at most once and
+/// each with a word behind it: `-min` and `-max` any number of 32 bits, the first at most the second, where they are not given the
+/// least and the greatest; `-objects` 1 to 25, else 8; `-steps` 1 to 1,000,000, else 100,000; for `run` also `-solver` 1 to
+/// 100,000,000, else 20,000, with `-dfs` `-after` one or more of the outcomes' bytes `! + - . F T a..z`, or `~`, and with a walk
+/// `-seed` 0 to 18446744073709551615, else 0; for `trace` `-depth` 1 to 1,024, else 1,024.
 /// A number is decimal, without a plus, without leading zeros, and 0 has no minus.
 ///
 /// An error is the number of the bad word, from 1: the least n such that the first n words begin no accepted list, or
