@@ -68,8 +68,8 @@ module _ (p : Program) (b : Limits) where
 
   bad_later : (n m : ℕ) (text line rest : List ℕ) (kind : Kind) → CutFirst 10 text line rest → IsLine p b line kind → IsBadAt p b n text m → IsBadAt p b (suc n) rest m
   bad_later n _ text line rest kind c i (this_line _ _ e faulty) = absurd (faulty line rest kind c i)
-  bad_later n m text line rest kind c i (line_behind _ _ _ other_line other_rest l d j h) =
-      let r = first_once 10 text line rest other_line other_rest c d in
+  bad_later n m text line rest kind c i (line_behind _ _ _ that_line that_rest l d j h) =
+      let r = first_once 10 text line rest that_line that_rest c d in
       subst (λ t. IsBadAt p b (suc n) t m) (sym r.1) h
 
   back_one : (n : ℕ) (text line rest : List ℕ) (kind : Kind) → CutFirst 10 text line rest → ((l : Kind) → IsLine p b line l → kind ≡ l) → (us : List Test) (ms : List ℕ) →
@@ -92,10 +92,10 @@ module _ (p : Program) (b : Limits) where
         subst (λ x. AreLines p b 2 start x (new_lines ++ ns)) (sym a) (subst (λ y. AreLines p b 2 start (old ++ (tests_in kind ++ ts)) y) (sym d) l);
     back = λ ts ns h.
         let w = u.back ts ns h in
-        let o = back_one n text line rest kind c only w.0 w.1.0 w.1.1.0 in
-        (o.0, o.1.0, subst (λ x. AreLines p b x rest o.0 o.1.0) (sym g) o.1.1.0,
-            w.1.1.1.0 ∙ ap (λ x. old ++ x) o.1.1.1.0 ∙ sym (append_assoc old (tests_in kind) o.0) ∙ ap (λ x. x ++ o.0) (sym e),
-            w.1.1.1.1 ∙ ap (λ x. old_lines ++ x) o.1.1.1.1 ∙ sym (append_assoc old_lines (lines_in n kind) o.1.0) ∙ ap (λ x. x ++ o.1.0) (sym f));
+        let o = back_one n text line rest kind c only w.0 w.1 w.2 in
+        (o.0, o.1, subst (λ x. AreLines p b x rest o.0 o.1) (sym g) o.2,
+            w.3 ∙ ap (λ x. old ++ x) o.3 ∙ sym (append_assoc old (tests_in kind) o.0) ∙ ap (λ x. x ++ o.0) (sym e),
+            w.4 ∙ ap (λ x. old_lines ++ x) o.4 ∙ sym (append_assoc old_lines (lines_in n kind) o.1) ∙ ap (λ x. x ++ o.1) (sym f));
     bad = λ m h. u.bad m (line_behind n m text line rest kind c i (subst (λ x. IsBadAt p b x rest m) g h));
     bad_back = λ m h. subst (λ x. IsBadAt p b x rest m) (sym g) (bad_later n m text line rest kind c i (u.bad_back m h));
   }
@@ -118,8 +118,8 @@ module _ (p : Program) (b : Limits) where
   pub ends_only : (start rest : List ℕ) (n : ℕ) (tests ts : List Test) (lines ns : List ℕ) → rest ≡ [] → UpTo start n rest tests lines → AreLines p b 2 start ts ns → (tests ≡ ts) × (lines ≡ ns)
   ends_only start rest n tests ts lines ns e u h =
       let w = u.back ts ns h in
-      let k = no_lines n rest w.0 w.1.0 e w.1.1.0 in
-      (sym (w.1.1.1.0 ∙ ap (λ x. tests ++ x) k.0 ∙ append_nil tests), sym (w.1.1.1.1 ∙ ap (λ x. lines ++ x) k.1 ∙ append_nil lines))
+      let k = no_lines n rest w.0 w.1 e w.2 in
+      (sym (w.3 ∙ ap (λ x. tests ++ x) k.0 ∙ append_nil tests), sym (w.4 ∙ ap (λ x. lines ++ x) k.1 ∙ append_nil lines))
 
   pub ends_well : (start rest : List ℕ) (n m : ℕ) (tests : List Test) (lines : List ℕ) → rest ≡ [] → UpTo start n rest tests lines → IsBadAt p b 2 start m → ⊥
   ends_well start rest n m tests lines e u h = no_bad_line n m rest e (u.bad_back m h)
@@ -131,7 +131,7 @@ module _ (p : Program) (b : Limits) where
   pub stops_whole : (start rest : List ℕ) (n : ℕ) (tests ts : List Test) (lines ns : List ℕ) → (rest ≡ [] → ⊥) → IsFaulty p b rest → UpTo start n rest tests lines → AreLines p b 2 start ts ns → ⊥
   stops_whole start rest n tests ts lines ns e faulty u h =
       let w = u.back ts ns h in
-      let f = firstly n rest w.0 w.1.0 e w.1.1.0 in
+      let f = firstly n rest w.0 w.1 e w.2 in
       faulty f.line f.rest f.kind f.cut f.is
 
   same_line : (n m : ℕ) (rest : List ℕ) → IsFaulty p b rest → IsBadAt p b n rest m → n ≡ m

@@ -11,7 +11,7 @@ pub apart : (w k : List ℕ) → bytes_eq w k ≡ false → w ≡ k → ⊥
 apart w k e s = let t = (bytes_eq-Decides w k).1 s in absurd (cc (e, t))
 
 starts : (w : List ℕ) (g : WordForm) (form : List WordForm) (line a rest : List ℕ) → CutFirst 32 line a rest → AreWords (the w ∷ g ∷ form) line → w ≡ a
-starts w g form line a rest c h = let r = first_once 32 line h.0 h.1.0 a rest h.1.1.0 c in sym h.1.1.1.0 ∙ r.0
+starts w g form line a rest c h = let r = first_once 32 line h.0 h.1 a rest h.2 c in sym h.3 ∙ r.0
 
 begins : (w : List ℕ) (g : WordForm) (more form : List WordForm) (line a rest : List ℕ) → form ≡ the w ∷ g ∷ more → CutFirst 32 line a rest → AreWords form line → w ≡ a
 begins w g more form line a rest e c h = starts w g more line a rest c (subst (λ f. AreWords f line) e h)
@@ -52,14 +52,14 @@ no_unrun = record { spent = refl; term = refl; event = refl; complete = refl; in
 
 -- a line of one word has no form
 one_word : (form : List WordForm) (line : List ℕ) → In form other_forms → Lacks 32 line → AreWords form line → ⊥
-one_word form line (inl e) l h = let w = subst (λ f. AreWords f line) e h in no_first 32 line w.0 w.1.0 l w.1.1.0
-one_word form line (inr (inl e)) l h = let w = subst (λ f. AreWords f line) e h in no_first 32 line w.0 w.1.0 l w.1.1.0
-one_word form line (inr (inr (inl e))) l h = let w = subst (λ f. AreWords f line) e h in no_first 32 line w.0 w.1.0 l w.1.1.0
-one_word form line (inr (inr (inr (inl e)))) l h = let w = subst (λ f. AreWords f line) e h in no_first 32 line w.0 w.1.0 l w.1.1.0
-one_word form line (inr (inr (inr (inr (inl e))))) l h = let w = subst (λ f. AreWords f line) e h in no_first 32 line w.0 w.1.0 l w.1.1.0
-one_word form line (inr (inr (inr (inr (inr (inl e)))))) l h = let w = subst (λ f. AreWords f line) e h in no_first 32 line w.0 w.1.0 l w.1.1.0
-one_word form line (inr (inr (inr (inr (inr (inr (inl e))))))) l h = let w = subst (λ f. AreWords f line) e h in no_first 32 line w.0 w.1.0 l w.1.1.0
-one_word form line (inr (inr (inr (inr (inr (inr (inr (inl e)))))))) l h = let w = subst (λ f. AreWords f line) e h in no_first 32 line w.0 w.1.0 l w.1.1.0
+one_word form line (inl e) l h = let w = subst (λ f. AreWords f line) e h in no_first 32 line w.0 w.1 l w.2
+one_word form line (inr (inl e)) l h = let w = subst (λ f. AreWords f line) e h in no_first 32 line w.0 w.1 l w.2
+one_word form line (inr (inr (inl e))) l h = let w = subst (λ f. AreWords f line) e h in no_first 32 line w.0 w.1 l w.2
+one_word form line (inr (inr (inr (inl e)))) l h = let w = subst (λ f. AreWords f line) e h in no_first 32 line w.0 w.1 l w.2
+one_word form line (inr (inr (inr (inr (inl e))))) l h = let w = subst (λ f. AreWords f line) e h in no_first 32 line w.0 w.1 l w.2
+one_word form line (inr (inr (inr (inr (inr (inl e)))))) l h = let w = subst (λ f. AreWords f line) e h in no_first 32 line w.0 w.1 l w.2
+one_word form line (inr (inr (inr (inr (inr (inr (inl e))))))) l h = let w = subst (λ f. AreWords f line) e h in no_first 32 line w.0 w.1 l w.2
+one_word form line (inr (inr (inr (inr (inr (inr (inr (inl e)))))))) l h = let w = subst (λ f. AreWords f line) e h in no_first 32 line w.0 w.1 l w.2
 one_word form line (inr (inr (inr (inr (inr (inr (inr (inr x)))))))) l h = x
 
 pub other_has_blank : (line : List ℕ) → Lacks 32 line → IsOther line → ⊥
@@ -74,8 +74,8 @@ more_words f g form text a rest c h k = (a, rest, c, h, k)
 pub words_cut : (f : WordForm) (form : List WordForm) (text a rest : List ℕ) → CutFirst 32 text a rest → AreWords (f ∷ form) text → IsWord f a × AreWords form rest
 words_cut f [] text a rest c h = absurd (no_first 32 text a rest h.0 c)
 words_cut f (g ∷ form) text a rest c h =
-    let r = first_once 32 text h.0 h.1.0 a rest h.1.1.0 c in
-    (subst (λ t. IsWord f t) r.0 h.1.1.1.0, subst (λ t. AreWords (g ∷ form) t) r.1 h.1.1.1.1)
+    let r = first_once 32 text h.0 h.1 a rest h.2 c in
+    (subst (λ t. IsWord f t) r.0 h.3, subst (λ t. AreWords (g ∷ form) t) r.1 h.4)
 
 -- and back
 pub words_joined : (f : WordForm) (form : List WordForm) (text a rest : List ℕ) → CutFirst 32 text a rest → IsWord f a → AreWords form rest → AreWords (f ∷ form) text
@@ -85,4 +85,4 @@ words_joined f (g ∷ form) text a rest c h k = (a, rest, c, h, k)
 -- of a text of one word
 pub last_word : (f : WordForm) (form : List WordForm) (text : List ℕ) → Lacks 32 text → AreWords (f ∷ form) text → (form ≡ []) × IsWord f text
 last_word f [] text l h = (refl, h.1)
-last_word f (g ∷ form) text l h = absurd (no_first 32 text h.0 h.1.0 l h.1.1.0)
+last_word f (g ∷ form) text l h = absurd (no_first 32 text h.0 h.1 l h.2)

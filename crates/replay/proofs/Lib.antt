@@ -7,3 +7,4 @@ pub mod FormLaws
 pub mod LineLaws
 pub mod NamedLaws
 pub mod BoundsLaws
+pub mod BeforeLaws
