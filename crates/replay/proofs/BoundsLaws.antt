@@ -64,24 +64,27 @@ unfolding has_none
 values line lo hi depth objects steps e l h d o s = record {
   rest = codes "min=" ++ (lo ++ 32 ∷ (codes "max=" ++ (hi ++ 32 ∷ (codes "depth=" ++ (depth ++ 32 ∷ (codes "objects=" ++ (objects ++ 32 ∷ (codes "steps=" ++ steps))))))));
   first = record { is = e; first = lacks_by_test 32 (codes "bounds") refl };
-  behind_lo = codes "max=" ++ (hi ++ 32 ∷ (codes "depth=" ++ (depth ++ 32 ∷ (codes "objects=" ++ (objects ++ 32 ∷ (codes "steps=" ++ steps))))));
-  is_lo = stand (codes "min") lo _ refl l.blank l.equals;
-  behind_hi = codes "depth=" ++ (depth ++ 32 ∷ (codes "objects=" ++ (objects ++ 32 ∷ (codes "steps=" ++ steps))));
-  is_hi = stand (codes "max") hi _ refl h.blank h.equals;
-  behind_depth = codes "objects=" ++ (objects ++ 32 ∷ (codes "steps=" ++ steps));
-  is_depth = stand (codes "depth") depth _ refl d.blank d.equals;
-  last = codes "steps=" ++ steps;
-  is_objects = stand (codes "objects") objects _ refl o.blank o.equals;
-  is_steps = record { is = refl; last = s.equals };
+  behind = record {
+    behind_lo = codes "max=" ++ (hi ++ 32 ∷ (codes "depth=" ++ (depth ++ 32 ∷ (codes "objects=" ++ (objects ++ 32 ∷ (codes "steps=" ++ steps))))));
+    is_lo = stand (codes "min") lo _ refl l.blank l.equals;
+    behind_hi = codes "depth=" ++ (depth ++ 32 ∷ (codes "objects=" ++ (objects ++ 32 ∷ (codes "steps=" ++ steps))));
+    is_hi = stand (codes "max") hi _ refl h.blank h.equals;
+    behind_depth = codes "objects=" ++ (objects ++ 32 ∷ (codes "steps=" ++ steps));
+    is_depth = stand (codes "depth") depth _ refl d.blank d.equals;
+    last = codes "steps=" ++ steps;
+    is_objects = stand (codes "objects") objects _ refl o.blank o.equals;
+    is_steps = record { is = refl; last = s.equals };
+  };
 }
 
 whole : (line lo hi depth objects steps : List ℕ) → AreValues line lo hi depth objects steps → line ≡ line_of lo hi depth objects steps
 whole line lo hi depth objects steps v =
-    (v.first).is ∙ ap (λ t. codes "bounds" ++ 32 ∷ t) (unstand v.rest (codes "min") lo v.behind_lo v.is_lo
-    ∙ ap (λ t. codes "min=" ++ (lo ++ 32 ∷ t)) (unstand v.behind_lo (codes "max") hi v.behind_hi v.is_hi
-    ∙ ap (λ t. codes "max=" ++ (hi ++ 32 ∷ t)) (unstand v.behind_hi (codes "depth") depth v.behind_depth v.is_depth
-    ∙ ap (λ t. codes "depth=" ++ (depth ++ 32 ∷ t)) (unstand v.behind_depth (codes "objects") objects v.last v.is_objects
-    ∙ ap (λ t. codes "objects=" ++ (objects ++ 32 ∷ t)) (v.is_steps).is))))
+    let b = v.behind in
+    (v.first).is ∙ ap (λ t. codes "bounds" ++ 32 ∷ t) (unstand v.rest (codes "min") lo b.behind_lo b.is_lo
+    ∙ ap (λ t. codes "min=" ++ (lo ++ 32 ∷ t)) (unstand b.behind_lo (codes "max") hi b.behind_hi b.is_hi
+    ∙ ap (λ t. codes "max=" ++ (hi ++ 32 ∷ t)) (unstand b.behind_hi (codes "depth") depth b.behind_depth b.is_depth
+    ∙ ap (λ t. codes "depth=" ++ (depth ++ 32 ∷ t)) (unstand b.behind_depth (codes "objects") objects b.last b.is_objects
+    ∙ ap (λ t. codes "objects=" ++ (objects ++ 32 ∷ t)) (b.is_steps).is))))
 
 -- ---- bounds
 

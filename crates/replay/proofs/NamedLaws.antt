@@ -91,3 +91,6 @@ place_else r word a b c t e = (
 
 pub place_none : (word : List ℕ) → Lacks 58 word → IsTrue false ↔ IsWord place word
 place_none word l = ((λ q. absurd (cc q)), (λ w. absurd (no_first 58 word w.0 w.1 l (place_cut word w))))
+
+pub stands_there : (t u name value rest : List ℕ) → t ≡ u → Stands u name value rest → Stands t name value rest
+stands_there t u name value rest e h = subst (λ x. Stands x name value rest) (sym e) h

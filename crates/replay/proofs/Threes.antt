@@ -1,5 +1,5 @@
 -- The three words of a test's text.
-use Rattle.std.proofs.Common.{◌≡◌, ◌∙◌, sym, ap, ap₂, refl, ℕ, List, [], ◌∷◌, ◌++◌, codes, arith}
+use Rattle.std.proofs.Common.{◌≡◌, ◌∙◌, sym, ap, ap₂, refl, subst, ℕ, List, [], ◌∷◌, ◌++◌, codes, arith}
 use Rattle.cc_base.specs.declared.ends.End.{End}
 use Rattle.cc_base.specs.Ends.{end_text}
 use Rattle.cc_base.specs.Paths.{Path, path_text}
@@ -51,3 +51,6 @@ path_is a c d p e m text h q = record { text = q.path; has = h.bytes }
 
 pub end_is : (a c d : List ℕ) (p : Path) (e : End) (m text : List ℕ) → ThreeWords text p e m → ArePartsOf a c d p e m → IsEnd c e
 end_is a c d p e m text h q = record { text = q.end; line = h.line }
+
+pub lacks_behind : (a c d : List ℕ) (p : Path) (e : End) (m text : List ℕ) → ThreeWords text p e m → ArePartsOf a c d p e m → Lacks 32 d
+lacks_behind a c d p e m text h q = subst (λ x. Lacks 32 x) (sym q.map) h.one

@@ -16,10 +16,8 @@ pub record Stands (text name value rest : List ℕ) : Type 0 where
   pub cut : CutFirst 32 text word rest
   pub named : IsNamed word name value
 
--- the words of a line of bounds
-pub record AreValues (line lo hi depth objects steps : List ℕ) : Type 0 where
-  pub rest : List ℕ
-  pub first : CutFirst 32 line (codes "bounds") rest
+-- the words of a line of bounds behind its first
+pub record StandBehind (rest lo hi depth objects steps : List ℕ) : Type 0 where
   pub behind_lo : List ℕ
   pub is_lo : Stands rest (codes "min") lo behind_lo
   pub behind_hi : List ℕ
@@ -29,6 +27,12 @@ pub record AreValues (line lo hi depth objects steps : List ℕ) : Type 0 where
   pub last : List ℕ
   pub is_objects : Stands behind_depth (codes "objects") objects last
   pub is_steps : IsNamed last (codes "steps") steps
+
+-- the words of a line of bounds
+pub record AreValues (line lo hi depth objects steps : List ℕ) : Type 0 where
+  pub rest : List ℕ
+  pub first : CutFirst 32 line (codes "bounds") rest
+  pub behind : StandBehind rest lo hi depth objects steps
 
 -- the numbers of these values, each in its range
 pub record AreNumbers (lo hi depth objects steps : List ℕ) (b : Limits) : Type 0 where

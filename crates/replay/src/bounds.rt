@@ -1,12 +1,19 @@
 //! The first line of a tests file.
 
-ghost use Rattle.std.specs.Prelude.{◌≡◌, IfSome, Some, List, ℕ};
+ghost use Rattle.std.specs.Prelude.{◌≡◌, ◌↔◌, IsTrue, IfSome, Some, List, ℕ};
 ghost use Rattle.cc_base.specs.Limits.{Limits};
 ghost use Rattle.replay.specs.Lines.{IsBounds};
-ghost use Rattle.replay.specs.Behind.{IsNamed, Stands, AreValues, AreNumbers, HasSome};
+ghost use Rattle.replay.specs.Behind.{IsNamed, Stands, StandBehind, AreValues, AreNumbers, HasSome};
 
 use cc_model::base::Bounds;
 use report_words::{Parts, cut_first, cut_last, natural_of, signed_of};
+
+/// Whether a word is this text.
+pub(crate) fn is_text(word: &[u8], text: &[u8]) -> bool
+    ensures { IsTrue result ↔ word.now ≡ text.now }
+{
+    word == text
+}
 
 /// The value of a word NAME=VALUE; a value has no `=`.
 pub(crate) fn value_of<'a>(word: &'a [u8], name: &[u8]) -> Option<&'a [u8]>
@@ -44,17 +51,13 @@ struct Values<'a> {
     steps: &'a [u8],
 }
 
-/// The values of a line of bounds; None where it has another form.
-fn values_of(line: &[u8]) -> Option<Values<'_>>
-    ensures read { IfSome result (λ v. AreValues line.now v.lo.now v.hi.now v.depth.now v.objects.now v.steps.now) }
-    ensures only { (lo hi depth objects steps : List ℕ) → AreValues line.now lo hi depth objects steps
+/// The values behind the first word of a line of bounds; None where they have another form.
+fn values_behind(rest: &[u8]) -> Option<Values<'_>>
+    ensures read { IfSome result (λ v. StandBehind rest.now v.lo.now v.hi.now v.depth.now v.objects.now v.steps.now) }
+    ensures only { (lo hi depth objects steps : List ℕ) → StandBehind rest.now lo hi depth objects steps
         → HasSome result (λ v. (v.lo.now ≡ lo) × (v.hi.now ≡ hi) × (v.depth.now ≡ depth) × (v.objects.now ≡ objects) × (v.steps.now ≡ steps)) }
 {
-    let first = cut_first(line, b' ')?;
-    if !matches!(first.before, b"bounds") {
-        return None;
-    }
-    let lo = next_value(first.behind, b"min")?;
+    let lo = next_value(rest, b"min")?;
     let hi = next_value(lo.behind, b"max")?;
     let depth = next_value(hi.behind, b"depth")?;
     let objects = next_value(depth.behind, b"objects")?;
@@ -66,6 +69,20 @@ fn values_of(line: &[u8]) -> Option<Values<'_>>
         objects: objects.before,
         steps,
     })
+}
+
+/// The values of a line of bounds; None where it has another form.
+fn values_of(line: &[u8]) -> Option<Values<'_>>
+    ensures read { IfSome result (λ v. AreValues line.now v.lo.now v.hi.now v.depth.now v.objects.now v.steps.now) }
+    ensures only { (lo hi depth objects steps : List ℕ) → AreValues line.now lo hi depth objects steps
+        → HasSome result (λ v. (v.lo.now ≡ lo) × (v.hi.now ≡ hi) × (v.depth.now ≡ depth) × (v.objects.now ≡ objects) × (v.steps.now ≡ steps)) }
+{
+    let first = cut_first(line, b' ')?;
+    if is_text(first.before, b"bounds") {
+        values_behind(first.behind)
+    } else {
+        None
+    }
 }
 
 /// The bounds of these values; None exactly where a value is no number, or outside its range.

@@ -13,6 +13,7 @@ ghost use Rattle.replay.specs.Reading.{Tells, IsBefore, IsStray, IsInputText, Is
 ghost use Rattle.input_map.specs.declared.faults.MapFault.TheVariants as map_fault;
 ghost use Rattle.replay.specs.TestTexts.{IsTestText};
 
+use crate::bounds::is_text;
 use crate::faults::TestFault;
 use crate::forms::is_other;
 use crate::reading::read_test;
@@ -57,7 +58,7 @@ fn before_after(text: &[u8]) -> Option<&[u8]>
     ensures only { (before : List ℕ) → text.now ≡ before ++ codes " after" → HasSome result (λ b. b.now ≡ before) }
 {
     let parts = cut_last(text, b' ')?;
-    if matches!(parts.behind, b"after") {
+    if is_text(parts.behind, b"after") {
         Some(parts.before)
     } else {
         None
