@@ -1,12 +1,12 @@
 -- The line of bounds, from the left, and its values.
-use Rattle.std.proofs.Common.{◌≡◌, ◌∙◌, sym, ap, ap₂, refl, subst, ℕ, suc, ◌^◌, ◌<◌, ◌≤◌, inl, inr, ℤ, pos, negsuc, ◌≤ℤ◌, true, List, [], ◌∷◌, ◌++◌, codes, arith, append_assoc}
+use Rattle.std.proofs.Common.{◌≡◌, ◌∙◌, sym, ap, ap₂, refl, subst, ℕ, suc, ◌^◌, ◌<◌, ◌≤◌, inl, inr, ℤ, pos, negsuc, ◌≤ℤ◌, true, List, [], ◌∷◌, ◌++◌, codes, arith, append_assoc, Option, Some, None, IfSome}
 use Rattle.std.proofs.lemmas.Int.{ints}
 use Rattle.std.specs.Fmt.{decimal, signed_decimal}
 use Rattle.cc_base.specs.Limits.{Limits, InRange}
 use Rattle.cc_model.specs.Report.{newline, bounds_line}
 use Rattle.report_words.specs.Cuts.{Lacks, CutFirst}
 use Rattle.report_words.specs.Words.{IsSigned}
-use Rattle.report_words.proofs.Cutting.{has_none, lacks_append, lacks_by_test}
+use Rattle.report_words.proofs.Cutting.{has_none, lacks_append, lacks_by_test, first_once}
 use Rattle.report_words.proofs.Texts.{lacks_decimal}
 use Rattle.replay.specs.Behind.{IsNamed, Stands, AreValues, AreNumbers}
 use Rattle.replay.specs.Lines.{IsBounds}
@@ -134,3 +134,23 @@ bounds_are line lo hi depth objects steps b v n =
       at_least = (n.is_lo).at_least;
       at_most = (n.is_hi).at_most;
     }
+
+-- the numbers of values that are these
+pub numbers_there : (lo hi depth objects steps l h d o s : List ℕ) (b : Limits) → (lo ≡ l) × (hi ≡ h) × (depth ≡ d) × (objects ≡ o) × (steps ≡ s) → AreNumbers l h d o s b →
+    AreNumbers lo hi depth objects steps b
+numbers_there lo hi depth objects steps l h d o s b e n = record {
+  is_lo = subst (λ x. IsSigned x b.lo) (sym e.0) n.is_lo;
+  is_hi = subst (λ x. IsSigned x b.hi) (sym e.1) n.is_hi;
+  is_depth = e.2 ∙ n.is_depth;
+  is_objects = e.3 ∙ n.is_objects;
+  is_steps = e.4 ∙ n.is_steps;
+  in_range = n.in_range;
+}
+
+-- another first word
+pub first_is : (line before behind lo hi depth objects steps : List ℕ) → CutFirst 32 line before behind → AreValues line lo hi depth objects steps → before ≡ codes "bounds"
+first_is line before behind lo hi depth objects steps c v = (first_once 32 line before behind (codes "bounds") v.rest c v.first).0
+
+pub if_bounds : (line lo hi depth objects steps : List ℕ) (r : Option Limits) → AreValues line lo hi depth objects steps → IfSome r (λ b. AreNumbers lo hi depth objects steps b) → IfSome r (λ b. IsBounds line b)
+if_bounds line lo hi depth objects steps None v h = tt
+if_bounds line lo hi depth objects steps (Some b) v h = bounds_are line lo hi depth objects steps b v h

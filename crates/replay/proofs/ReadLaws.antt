@@ -66,11 +66,17 @@ map_only p b text path e m g f t read k h same = by (read t.input (map_of p b te
     by (inl x) = absurd (cc x)
     by (inr x) = map_only' g f t (cc x) k
 
+abbrev make : Path → End → Input → Test
+make path e i = record { path = path; end = e; input = i }
+
+same_test : (path : Path) (e : End) (i : Input) (t : Test) → path ≡ t.path → e ≡ t.end → i ≡ t.input → make path e i ≡ t
+same_test path e i t f g k = ap (λ (x : Path). make x e i) f ∙ ap (λ (x : End). make t.path x i) g ∙ ap (λ (x : Input). make t.path t.end x) k
+
 pub read_only : (p : Program) (b : Limits) (text : List ℕ) (path : Path) (e : End) (m : List ℕ) (i : Input) (t : Test) →
     ((h : Input) → IsMap m h → IsInput p b h → maps.IsOrNoMemory (Ok i) (Ok h)) → (path ≡ t.path) × (e ≡ t.end) × (m ≡ map_text t.input) → IsTestText p b text t →
     IsOrNoMemory (Ok (record { path = path; end = e; input = i })) (Ok t)
 read_only p b text path e m i t read same h = by (read t.input (map_of p b text t m h same.2) ((h.good).input).within)
   where
     by : maps.IsOrNoMemory (Ok i) (Ok t.input) → IsOrNoMemory (Ok (record { path = path; end = e; input = i })) (Ok t)
-    by (inl x) = let k : i ≡ t.input = cc x in let f = same.0 in let g = same.1 in inl (cc (k, f, g))
+    by (inl x) = let k : i ≡ t.input = cc x in inl (ap Ok (same_test path e i t same.0 same.1 k))
     by (inr x) = absurd (cc x)
