@@ -1,0 +1,10 @@
+pub mod Shapes
+pub mod Threes
+pub mod MapLacks
+pub mod ReadLaws
+pub mod FileLaws
+pub mod FormLaws
+pub mod LineLaws
+pub mod NamedLaws
+pub mod BoundsLaws
+pub mod BeforeLaws

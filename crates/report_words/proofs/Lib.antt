@@ -1,0 +1,5 @@
+pub mod Cutting
+pub mod Texts
+pub mod Bytes
+pub mod Numerals
+pub mod EndTexts

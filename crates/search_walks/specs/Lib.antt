@@ -1,0 +1,5 @@
+pub mod Draws
+pub mod Distance
+pub mod Setting
+pub mod Walks
+pub mod Output
