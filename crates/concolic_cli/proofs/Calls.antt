@@ -1,6 +1,8 @@
 -- What a call comes to, by its status.
-use Rattle.std.proofs.Common.{◌≡◌, ℕ, zero, suc, ◌+◌, ◌≤◌, ◌⊎◌, Option, inl, inr, ⊎_elim, Bool, true, false, List, [], ◌∷◌, ◌++◌, refl, sym, subst, ◌∙◌, arith, codes, if◌then◌else◌, nat_eq}
+use Rattle.std.proofs.Common.{◌≡◌, ℕ, zero, suc, ◌+◌, ◌≤◌, ◌⊎◌, Option, inl, inr, ⊎_elim, Bool, true, false, List, [], ◌∷◌, ◌++◌, length, ap, refl, sym, subst, ◌∙◌, arith, codes, if◌then◌else◌, nat_eq}
+use Rattle.cc_base.specs.declared.inputs.Test.{Test}
 use Rattle.cc_base.specs.Limits.{Limits}
+use Rattle.cc_model.specs.Core.{Program}
 use Rattle.cc_base.specs.Paths.{Path, In}
 use Rattle.cc_model.specs.declared.commands.Command.TheVariants.{Make}
 use Rattle.cc_model.specs.Listing.{counts_of}
@@ -10,15 +12,28 @@ use Rattle.cc_outside.specs.Faults.{Rose}
 use Rattle.input_map.specs.declared.faults.MapFault.{MapFault}
 use Rattle.concolic_cli.specs.declared.refusal.Refusal.{Refusal}
 use Rattle.concolic_cli.specs.declared.refusal.Refusal.TheVariants as refusal
-use Rattle.concolic_cli.specs.Concolic.{Call, Answered, bad, done, refused, made, unmade, SourceIsRefused, FileFault, FileIsRefused}
+use Rattle.concolic_cli.specs.Concolic.{Call, Answered, bad, done, refused, made, unmade, SourceIsRefused, FileFault, NamesFile, its_source, its_tests, FileIsRefused, tests_of, names_of, no_names, made_names}
 use Rattle.concolic_cli.specs.Made.{made_source, made_entry}
 use Rattle.concolic_cli.specs.Refusals.{bad_word_text, file_text, map_text_of, Says, IsAnswered}
-use Rattle.concolic_cli.specs.Session.{ReadAs, Wrote, WroteFirst, Stands, nothing, Cause, SourceCause, WroteLast, WroteLastFirst, LastStands, no_line, MadeCause}
+use Rattle.concolic_cli.specs.Loaded.{source_limit, tests_limit, ReadAs}
+use Rattle.concolic_cli.specs.Session.{Wrote, WroteFirst, Stands, nothing, Cause, TestsRefused, SourceCause, WroteLast, WroteLastFirst, LastStands, no_line, MadeCause}
 use Rattle.concolic_cli.specs.Sources.{Refuses}
-use Rattle.concolic_cli.specs.Tasks.{Task, Work, list, trace, Asks, IsReport, RefusesTask}
+use Rattle.cc_outside.specs.Held.{Held}
+use Rattle.replay.specs.ReplayText.{Written, all_real, one_real, one_differs}
+use Rattle.concolic_cli.specs.Tasks.{Task, Work, list, trace, replay, Asks, IsReport, RefusesTask}
 use Rattle.command_words.specs.Words.{Accepted, BadWord}
 
 -- ---- the status of a report
+
+-- the statuses of what is written
+abbrev pub reports : List ℕ
+reports = 0 ∷ 1 ∷ 8 ∷ 10 ∷ 11 ∷ []
+
+-- those of a listing are some of them
+pub listed_in : (n : ℕ) → In n (0 ∷ 1 ∷ 10 ∷ 11 ∷ []) → In n reports
+listed_in n (inl e) = inl e
+listed_in n (inr (inl e)) = inr (inl e)
+listed_in n (inr (inr h)) = inr (inr (inr h))
 
 verdict_in : (a b : Bool) (n : ℕ) → n ≡ (if a then 0 else 10) + (if b then 1 else 0) → In n (0 ∷ 1 ∷ 10 ∷ 11 ∷ [])
 verdict_in true false n e = inl e
@@ -35,30 +50,47 @@ small_of zero h = inl refl
 small_of (suc zero) h = inr refl
 small_of (suc (suc n)) h = absurd (omega (arith, h))
 
-pub small_in : (n : ℕ) → n ≤ 1 → In n (0 ∷ 1 ∷ 10 ∷ 11 ∷ [])
+pub small_in : (n : ℕ) → n ≤ 1 → In n reports
 small_in n h = ⊎_elim (λ e. inl e) (λ e. inr (inl e)) (small_of n h)
 
-pub report_status : (bytes entry : List ℕ) (w : Work) (text : List ℕ) (status : ℕ) → IsReport bytes entry w text status → In status (0 ∷ 1 ∷ 10 ∷ 11 ∷ [])
-report_status bytes entry (list b runs budget after) text status h = verdict_in (nat_eq (total (counts_of (h.listing))) 0) (has_fault (h.listing).items) status h.verdict
-report_status bytes entry (trace b map) text status h = small_in status (run_in (is_fault (end_at h.program b h.input)) status h.verdict)
+-- a replay ends with 0 or 8
+pub replay_status : (p : Program) (b : Limits) (total : ℕ) (tests : List Test) (lines text : List ℕ) (n : ℕ) → Written p b total tests lines text n → (n ≡ 0) ⊎ (n ≡ 8)
+replay_status p b total _ _ _ _ all_real = inl refl
+replay_status p b total _ _ _ _ (one_real t tests k lines text n r w) = replay_status p b total tests lines text n w
+replay_status p b total _ _ _ _ (one_differs t tests k lines d) = inr refl
 
--- a run that is told has no other status
-pub trace_status : (bytes entry : List ℕ) (w : Work) (text : List ℕ) (status : ℕ) → IsReport bytes entry w text status → 10 ≤ status → (b : Limits) × (n : ℕ) × (m : ℕ) × (a : Option Path) × (w ≡ list b n m a)
-trace_status bytes entry (list b runs budget after) text status h l = (b, runs, budget, after, refl)
-trace_status bytes entry (trace b map) text status h l = let s = run_in (is_fault (end_at h.program b h.input)) status h.verdict in absurd (omega (arith, s, l))
+replay_in : (n : ℕ) → (n ≡ 0) ⊎ (n ≡ 8) → In n reports
+replay_in n (inl e) = inl e
+replay_in n (inr e) = inr (inr (inl e))
 
--- nothing lies between 1 and 10
-pub apart : (n : ℕ) → In n (0 ∷ 1 ∷ 10 ∷ 11 ∷ []) → 2 ≤ n → n ≤ 9 → ⊥
+pub list_status : (held : Option Held) (bytes entry : List ℕ) (b : Limits) (runs budget : ℕ) (after : Option Path) (text : List ℕ) (status : ℕ) → IsReport held bytes entry (list b runs budget after) text status → In status (0 ∷ 1 ∷ 10 ∷ 11 ∷ [])
+list_status held bytes entry b runs budget after text status h = verdict_in (nat_eq (total (counts_of (h.listing))) 0) (has_fault (h.listing).items) status h.verdict
+
+pub report_status : (held : Option Held) (bytes entry : List ℕ) (w : Work) (text : List ℕ) (status : ℕ) → IsReport held bytes entry w text status → In status reports
+report_status held bytes entry (list b runs budget after) text status h = listed_in status (list_status held bytes entry b runs budget after text status h)
+report_status held bytes entry (trace b map) text status h = small_in status (run_in (is_fault (end_at h.program b h.input)) status h.verdict)
+report_status held bytes entry (replay tests) text status h = replay_in status (replay_status h.program h.bounds (length h.all) h.all h.lines text status h.written)
+
+-- a run that is told, and a replay, have no other status
+pub trace_status : (held : Option Held) (bytes entry : List ℕ) (b : Limits) (map text : List ℕ) (status : ℕ) → IsReport held bytes entry (trace b map) text status → status ≤ 1
+trace_status held bytes entry b map text status h = run_in (is_fault (end_at h.program b h.input)) status h.verdict
+
+pub replayed_status : (held : Option Held) (bytes entry tests text : List ℕ) (status : ℕ) → IsReport held bytes entry (replay tests) text status → (status ≡ 0) ⊎ (status ≡ 8)
+replayed_status held bytes entry tests text status h = replay_status h.program h.bounds (length h.all) h.all h.lines text status h.written
+
+-- nothing lies between 1 and 8
+pub apart : (n : ℕ) → In n reports → 2 ≤ n → n ≤ 7 → ⊥
 apart n (inl e) l h = omega (arith, e, l)
 apart n (inr (inl e)) l h = omega (arith, e, l)
 apart n (inr (inr (inl e))) l h = omega (arith, e, h)
 apart n (inr (inr (inr (inl e)))) l h = omega (arith, e, h)
-apart n (inr (inr (inr (inr e)))) l h = e
+apart n (inr (inr (inr (inr (inl e))))) l h = omega (arith, e, h)
+apart n (inr (inr (inr (inr (inr e))))) l h = e
 
 -- ---- the three ways
 
 pub bad_call : (call : Call) (status n : ℕ) → BadWord call.words n → (call.seen).out_new ≡ (call.seen).out_old →
-    IsAnswered call.err_old call.err_new call.err_faults_old call.err_faults_new [] [] (refusal.BadWord n) status → Answered call status
+    IsAnswered call.err_old call.err_new call.err_faults_old call.err_faults_new no_names (refusal.BadWord n) status → Answered call status
 bad_call call status n b silent (inl h) = bad n b h.0 silent h.1
 bad_call call status n b silent (inr h) = absurd (cc h.0)
 
@@ -67,16 +99,16 @@ pub done_call : (call : Call) (status : ℕ) (told task : Task) → told ≡ tas
 done_call call status told task e a w quiet = done task a (subst (λ k. Wrote (call.seen).held (call.seen).out_old (call.seen).out_new k status) e w) quiet
 
 pub refused_call : (call : Call) (status : ℕ) (why : Refusal) (told task : Task) → told ≡ task → Asks call.words task → Cause call.seen told why →
-    IsAnswered call.err_old call.err_new call.err_faults_old call.err_faults_new told.file told.entry why status → Answered call status
+    IsAnswered call.err_old call.err_new call.err_faults_old call.err_faults_new (names_of told) why status → Answered call status
 refused_call call status why told task e a cause answered =
     refused task why a (subst (λ k. Cause call.seen k why) e cause)
-    (subst (λ k. IsAnswered call.err_old call.err_new call.err_faults_old call.err_faults_new k.file k.entry why status) e answered)
+    (subst (λ k. IsAnswered call.err_old call.err_new call.err_faults_old call.err_faults_new (names_of k) why status) e answered)
 
 pub made_call : (call : Call) (status n : ℕ) → Accepted call.words (Make n) → (status ≡ 0) × WroteLast n (call.seen).out_old (call.seen).out_new → call.err_new ≡ call.err_old → Answered call status
 made_call call status n a w quiet = made n a w.1 w.0 quiet
 
 pub unmade_call : (call : Call) (status n : ℕ) (why : Refusal) → Accepted call.words (Make n) → MadeCause n (call.seen).out_old (call.seen).out_new (call.seen).faults_old (call.seen).faults_new why →
-    IsAnswered call.err_old call.err_new call.err_faults_old call.err_faults_new [] made_entry why status → Answered call status
+    IsAnswered call.err_old call.err_new call.err_faults_old call.err_faults_new made_names why status → Answered call status
 unmade_call call status n why a cause answered = unmade n why a cause answered
 
 -- ---- by status
@@ -94,7 +126,7 @@ pub data MakeEnding (call : Call) (status n : ℕ) : Type 0 where
 pub data Ending (call : Call) (status : ℕ) : Type 0 where
   at_words : (n : ℕ) → BadWord call.words n → status ≡ 2 → (call.seen).out_new ≡ (call.seen).out_old →
       Says call.err_old call.err_new call.err_faults_old call.err_faults_new (bad_word_text n ++ newline) → Ending call status
-  at_report : (task : Task) → Asks call.words task → In status (0 ∷ 1 ∷ 10 ∷ 11 ∷ []) → Wrote (call.seen).held (call.seen).out_old (call.seen).out_new task status →
+  at_report : (task : Task) → Asks call.words task → In status reports → Wrote (call.seen).held (call.seen).out_old (call.seen).out_new task status →
       call.err_new ≡ call.err_old → Ending call status
   at_source : status ≡ 3 → SourceIsRefused call.words (call.seen).held call.err_old call.err_new call.err_faults_old call.err_faults_new →
       (call.seen).out_new ≡ (call.seen).out_old → Ending call status
@@ -112,11 +144,21 @@ module _ (call : Call) (status : ℕ) (task : Task) (a : Asks call.words task) w
   Said text = Says call.err_old call.err_new call.err_faults_old call.err_faults_new (text ++ newline)
 
   -- a file that is refused, with its text; or memory for the text is wanting
-  at_file_of : (what : List ℕ) → FileFault (call.seen).held (call.seen).files_old (call.seen).files_new task.file what → (call.seen).out_new ≡ (call.seen).out_old →
-      (status ≡ 4) × Said (file_text task.file what) → Ending call status
-  at_file_of what cause silent h = at_file h.0 (record { task = task; asked = a; what = what; cause = cause; said = h.1 }) silent
+  at_named_file : (name : List ℕ) (limit : ℕ) → NamesFile (call.seen).held task name limit → (what : List ℕ) → FileFault limit (call.seen).held (call.seen).files_old (call.seen).files_new name what → (call.seen).out_new ≡ (call.seen).out_old →
+      (status ≡ 4) × Said (file_text name what) → Ending call status
+  at_named_file name limit names what cause silent h = at_file h.0 (record { task = task; asked = a; name = name; limit = limit; names = names; what = what; cause = cause; said = h.1 }) silent
 
-  at_source_of : (text bytes : List ℕ) → ReadAs (call.seen).held task.file bytes → RefusesTask bytes task.entry task.work text → (call.seen).out_new ≡ (call.seen).out_old →
+  at_file_of : (what : List ℕ) → FileFault source_limit (call.seen).held (call.seen).files_old (call.seen).files_new task.file what → (call.seen).out_new ≡ (call.seen).out_old →
+      (status ≡ 4) × Said (file_text task.file what) → Ending call status
+  at_file_of what cause silent h = at_named_file task.file source_limit its_source what cause silent h
+
+  -- the tests file, which the task names
+  at_tests_of : (e : Refusal) (what : List ℕ) (c : TestsRefused call.seen task e) → FileFault tests_limit (call.seen).held (call.seen).files_old (call.seen).files_new c.tests what → (status ≡ 4) × Said (file_text (names_of task).tests what) → Ending call status
+  at_tests_of e what c fault h =
+      let same : (names_of task).tests ≡ c.tests = ap tests_of c.named in
+      at_named_file c.tests tests_limit (its_tests c.tests c.bytes c.program c.named c.read c.source) what fault c.silent (h.0, subst (λ n. Said (file_text n what)) same h.1)
+
+  at_source_of : (text bytes : List ℕ) → ReadAs (call.seen).held task.file bytes → RefusesTask (call.seen).held bytes task.entry task.work text → (call.seen).out_new ≡ (call.seen).out_old →
       (status ≡ 3) × Said text → Ending call status
   at_source_of text bytes read r silent h = at_source h.0 (record { task = task; asked = a; bytes = bytes; text = text; read = read; refused = r; said = h.1 }) silent
 
@@ -124,17 +166,18 @@ module _ (call : Call) (status : ℕ) (task : Task) (a : Asks call.words task) w
   no_memory p h = at_memory h.0 task a p h.1
 
   -- a program that is accepted and refused for the task
-  at_work : (w : Work) → task.work ≡ w → (why : Refusal) (text bytes : List ℕ) → ReadAs (call.seen).held task.file bytes → RefusesTask bytes task.entry w text → (call.seen).out_new ≡ (call.seen).out_old →
+  at_work : (w : Work) → task.work ≡ w → (why : Refusal) (text bytes : List ℕ) → ReadAs (call.seen).held task.file bytes → RefusesTask (call.seen).held bytes task.entry w text → (call.seen).out_new ≡ (call.seen).out_old →
       (status ≡ 3) × Said text → Ending call status
-  at_work w e why text bytes read r silent h = at_source_of text bytes read (subst (λ u. RefusesTask bytes task.entry u text) (sym e) r) silent h
+  at_work w e why text bytes read r silent h = at_source_of text bytes read (subst (λ u. RefusesTask (call.seen).held bytes task.entry u text) (sym e) r) silent h
 
   at_map : (w : Work) → task.work ≡ w → (f : MapFault) → (bytes : List ℕ) → ReadAs (call.seen).held task.file bytes → SourceCause bytes task.entry w (refusal.Map f) → (call.seen).out_new ≡ (call.seen).out_old →
       (status ≡ 3) × Said (map_text_of f) → Ending call status
   at_map (list b runs budget after) e f bytes read c silent h = absurd c
+  at_map (replay tests) e f bytes read c silent h = absurd c
   at_map (trace b map) e f bytes read c silent h = at_work (trace b map) e (refusal.Map f) _ bytes read (inr (f, c, refl)) silent h
 
   ending_of : (why : Refusal) → Cause call.seen task why →
-      IsAnswered call.err_old call.err_new call.err_faults_old call.err_faults_new task.file task.entry why status → Ending call status
+      IsAnswered call.err_old call.err_new call.err_faults_old call.err_faults_new (names_of task) why status → Ending call status
   ending_of (refusal.BadWord n) c h = absurd c
   ending_of refusal.Missing c (inl h) = at_file_of (codes "missing") (inl (refl, c.0)) c.1 h
   ending_of refusal.Missing c (inr h) = no_memory (nothing c.1) (h.1, h.2)
@@ -148,6 +191,16 @@ module _ (call : Call) (status : ℕ) (task : Task) (a : Asks call.words task) w
   ending_of refusal.NoEntry c (inr h) = no_memory (nothing c.silent) (h.1, h.2)
   ending_of (refusal.Map f) c (inl h) = at_map task.work refl f c.bytes c.read c.cause c.silent h
   ending_of (refusal.Map f) c (inr h) = no_memory (nothing c.silent) (h.1, h.2)
+  ending_of refusal.TestsMissing c (inl h) = at_tests_of refusal.TestsMissing (codes "missing") c (inl (refl, c.cause)) h
+  ending_of refusal.TestsMissing c (inr h) = no_memory (nothing c.silent) (h.1, h.2)
+  ending_of refusal.TestsTooLong c (inl h) = at_tests_of refusal.TestsTooLong (codes "too long") c (inr (inl (refl, c.cause))) h
+  ending_of refusal.TestsTooLong c (inr h) = no_memory (nothing c.silent) (h.1, h.2)
+  ending_of refusal.TestsFailed c (inl h) = at_tests_of refusal.TestsFailed (codes "failed") c (inr (inr (refl, c.cause))) h
+  ending_of refusal.TestsFailed c (inr h) = no_memory (nothing c.silent) (h.1, h.2)
+  ending_of (refusal.Tests line) c (inl h) =
+      at_work (replay c.tests) c.named (refusal.Tests line) _ c.bytes c.read
+      (inr (line, record { program = c.program; source = c.source; file = (c.cause).0; read = (c.cause).1; refused = (c.cause).2 }, refl)) c.silent h
+  ending_of (refusal.Tests line) c (inr h) = no_memory (nothing c.silent) (h.1, h.2)
   ending_of refusal.OutputFailed c (inl h) = at_output h.0 c.0 task a c.1 h.1
   ending_of refusal.OutputFailed c (inr h) = absurd (cc h.0)
   ending_of refusal.NoMemory c (inl h) = no_memory c h
@@ -158,7 +211,7 @@ module _ (call : Call) (status n : ℕ) where
   SaidOf text = Says call.err_old call.err_new call.err_faults_old call.err_faults_new (text ++ newline)
 
   make_ending : (why : Refusal) → MadeCause n (call.seen).out_old (call.seen).out_new (call.seen).faults_old (call.seen).faults_new why →
-      IsAnswered call.err_old call.err_new call.err_faults_old call.err_faults_new [] made_entry why status → MakeEnding call status n
+      IsAnswered call.err_old call.err_new call.err_faults_old call.err_faults_new made_names why status → MakeEnding call status n
   make_ending (refusal.Source line wrong) c (inl h) = at_made_source h.0 _ c.0 h.1 c.1
   make_ending (refusal.Source line wrong) c (inr h) = at_made_memory h.1 (no_line c.1) h.2
   make_ending refusal.NoEntry c (inl h) = at_made_source h.0 _ c.0 h.1 c.1
@@ -172,10 +225,14 @@ module _ (call : Call) (status n : ℕ) where
   make_ending refusal.TooLong c h = absurd c
   make_ending refusal.FileFailed c h = absurd c
   make_ending (refusal.Map f) c h = absurd c
+  make_ending refusal.TestsMissing c h = absurd c
+  make_ending refusal.TestsTooLong c h = absurd c
+  make_ending refusal.TestsFailed c h = absurd c
+  make_ending (refusal.Tests l) c h = absurd c
 
 pub ending : (call : Call) (status : ℕ) → Answered call status → Ending call status
 ending call status (bad n b e silent said) = at_words n b e silent said
-ending call status (done task a w quiet) = at_report task a (report_status w.bytes task.entry task.work w.text status w.report) w quiet
+ending call status (done task a w quiet) = at_report task a (report_status (call.seen).held w.bytes task.entry task.work w.text status w.report) w quiet
 ending call status (refused task why a c h) = ending_of call status task a why c h
 ending call status (made n a w e quiet) = at_make n a (at_line e w quiet)
 ending call status (unmade n why a c h) = at_make n a (make_ending call status n why c h)

@@ -18,7 +18,8 @@ use Rattle.concolic_cli.specs.declared.refusal.Refusal.TheVariants as refused
 use Rattle.concolic_cli.specs.Made.{made_source, made_entry}
 use Rattle.concolic_cli.specs.Programs.{ReadsAs, IsLexical, IsFaulty, IsWrong, IsNoProgram}
 use Rattle.concolic_cli.specs.Refusals.{what_text}
-use Rattle.concolic_cli.specs.Session.{ReadAs, FileCause, MapCause, SourceCause, WriteCause, Seen, WroteFirst, part, Cause, nothing, no_line, first_part, WroteLastFirst, MadeCause}
+use Rattle.concolic_cli.specs.Loaded.{ReadAs}
+use Rattle.concolic_cli.specs.Session.{FileCause, MapCause, SourceCause, WriteCause, Seen, WroteFirst, part, Cause, nothing, no_line, first_part, WroteLastFirst, MadeCause}
 use Rattle.concolic_cli.specs.Sources.{offset_of, source_text, wrong_text, no_entry_text, Refuses, lexical, syntax, too_deep, fault, no_entry}
 use Rattle.concolic_cli.specs.Tasks.{Task, Work, trace}
 
@@ -53,6 +54,10 @@ no_program_cause bytes entry work refused.TooLong h = h
 no_program_cause bytes entry work refused.FileFailed h = h
 no_program_cause bytes entry work refused.NoEntry h = no_entry h.0 h.1 (h.2).lexed (h.2).read (h.2).well_typed h.3
 no_program_cause bytes entry work (refused.Map f) h = absurd h
+no_program_cause bytes entry work refused.TestsMissing h = absurd h
+no_program_cause bytes entry work refused.TestsTooLong h = absurd h
+no_program_cause bytes entry work refused.TestsFailed h = absurd h
+no_program_cause bytes entry work (refused.Tests l) h = absurd h
 no_program_cause bytes entry work refused.OutputFailed h = h
 
 -- ---- an accepted program
@@ -80,6 +85,10 @@ map_cause bytes entry tokens c b map refused.TooLong reads h whole = absurd h
 map_cause bytes entry tokens c b map refused.FileFailed reads h whole = absurd h
 map_cause bytes entry tokens c b map refused.NoEntry reads h whole = absurd h
 map_cause bytes entry tokens c b map refused.OutputFailed reads h whole = absurd h
+map_cause bytes entry tokens c b map refused.TestsMissing reads h whole = absurd h
+map_cause bytes entry tokens c b map refused.TestsTooLong reads h whole = absurd h
+map_cause bytes entry tokens c b map refused.TestsFailed reads h whole = absurd h
+map_cause bytes entry tokens c b map (refused.Tests l) reads h whole = absurd h
 
 -- ---- the file
 
@@ -93,6 +102,10 @@ file_cause seen task (refused.BadWord n) h silent = absurd h
 file_cause seen task (refused.Source line w) h silent = absurd h
 file_cause seen task refused.NoEntry h silent = absurd h
 file_cause seen task (refused.Map f) h silent = absurd h
+file_cause seen task refused.TestsMissing h silent = absurd h
+file_cause seen task refused.TestsTooLong h silent = absurd h
+file_cause seen task refused.TestsFailed h silent = absurd h
+file_cause seen task (refused.Tests l) h silent = absurd h
 file_cause seen task refused.OutputFailed h silent = absurd h
 
 -- ---- the output
@@ -108,6 +121,10 @@ write_failed seen task refused.FileFailed w h = absurd h
 write_failed seen task (refused.Source line wrong) w h = absurd h
 write_failed seen task refused.NoEntry w h = absurd h
 write_failed seen task (refused.Map f) w h = absurd h
+write_failed seen task refused.TestsMissing w h = absurd h
+write_failed seen task refused.TestsTooLong w h = absurd h
+write_failed seen task refused.TestsFailed w h = absurd h
+write_failed seen task (refused.Tests l) w h = absurd h
 
 -- ---- a source that is no program
 
@@ -125,6 +142,10 @@ source_refused seen task e bytes bytes' same read none silent = by_refusal e (no
     by_refusal refused.TooLong h = absurd h
     by_refusal refused.FileFailed h = absurd h
     by_refusal refused.OutputFailed h = absurd h
+    by_refusal refused.TestsMissing h = absurd h
+    by_refusal refused.TestsTooLong h = absurd h
+    by_refusal refused.TestsFailed h = absurd h
+    by_refusal (refused.Tests l) h = absurd h
 
 -- ---- `make`
 
@@ -135,6 +156,10 @@ module _ (n : ℕ) (old new : Option (List ℕ)) (faults_old faults_new : ℕ) w
   made_refused source refused.NoEntry same h silent = (subst (λ u. Refuses u made_entry (no_entry_text made_entry)) same (no_entry h.0 h.1 (h.2).lexed (h.2).read (h.2).well_typed h.3), silent)
   made_refused source refused.NoMemory same h silent = no_line silent
   made_refused source (refused.Map f) same h silent = absurd h
+  made_refused source refused.TestsMissing same h silent = absurd h
+  made_refused source refused.TestsTooLong same h silent = absurd h
+  made_refused source refused.TestsFailed same h silent = absurd h
+  made_refused source (refused.Tests l) same h silent = absurd h
   made_refused source (refused.BadWord k) same h silent = absurd h
   made_refused source refused.Missing same h silent = absurd h
   made_refused source refused.TooLong same h silent = absurd h
@@ -152,3 +177,7 @@ module _ (n : ℕ) (old new : Option (List ℕ)) (faults_old faults_new : ℕ) w
   line_failed (refused.Source line wrong) w h = absurd h
   line_failed refused.NoEntry w h = absurd h
   line_failed (refused.Map f) w h = absurd h
+  line_failed refused.TestsMissing w h = absurd h
+  line_failed refused.TestsTooLong w h = absurd h
+  line_failed refused.TestsFailed w h = absurd h
+  line_failed (refused.Tests l) w h = absurd h

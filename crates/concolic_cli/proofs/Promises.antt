@@ -4,7 +4,8 @@ use Rattle.std.proofs.Common.{true, ◌≡◌, ℕ, ◌+◌, ◌<◌, ◌≤◌,
 use Rattle.cc_base.specs.declared.inputs.Input.{Input}
 use Rattle.cc_base.specs.Limits.{Limits}
 use Rattle.cc_base.specs.Paths.{Path, In}
-use Rattle.cc_model.specs.declared.commands.Command.TheVariants.{Run, Trace, Make}
+use Rattle.cc_model.specs.declared.commands.Command.TheVariants.{Run, Trace, Replay, Make}
+use Rattle.cc_model.specs.declared.commands.ReplayWords.{ReplayWords}
 use Rattle.cc_model.specs.declared.commands.RunWords.{RunWords}
 use Rattle.cc_model.specs.declared.commands.TraceWords.{TraceWords}
 use Rattle.cc_model.specs.declared.tokens.Token.{Token}
@@ -24,16 +25,19 @@ use Rattle.cc_outside.specs.Told.{appended}
 use Rattle.input_map.specs.declared.faults.MapFault.{MapFault}
 use Rattle.input_map.specs.CellFaults.{Refused}
 use Rattle.input_map.specs.Maps.{IsMap}
-use Rattle.concolic_cli.specs.Concolic.{Call, HasNoCommand, IsSource, IsSourceOf, Headline, NothingMissedBut, PartStands, of_task, of_make, SourceIsRefused, MadeIsRefused, FileFault, FileIsRefused, IsRefusal}
+use Rattle.concolic_cli.specs.Concolic.{Call, HasNoCommand, IsSource, IsSourceOf, Headline, NothingMissedBut, PartStands, of_task, of_make, SourceIsRefused, MadeIsRefused, FileFault, NamesFile, its_source, its_tests, FileIsRefused, IsRefusal, HoldsSome}
 use Rattle.concolic_cli.specs.Listings.{IsEasy, HoldsPaths, room}
 use Rattle.concolic_cli.specs.Made.{made_source, made_entry}
 use Rattle.concolic_cli.specs.Refusals.{bad_word_text, Says}
-use Rattle.concolic_cli.specs.Session.{ReadAs, Wrote, nothing, part, WroteLast, LastStands, no_line, first_part}
+use Rattle.concolic_cli.specs.Loaded.{source_limit, tests_limit, ReadAs, ReadTests}
+use Rattle.concolic_cli.specs.Session.{Wrote, nothing, part, WroteLast, LastStands, no_line, first_part}
 use Rattle.concolic_cli.specs.Sources.{Refuses, lexical, syntax, too_deep, fault, no_entry}
-use Rattle.concolic_cli.specs.Tasks.{Task, Work, list, trace, Asks, asks_list, asks_trace, IsAfter, word_of, list_task, trace_task, IsReport, MayStand, MakesAs, RefusesTask}
+use Rattle.concolic_cli.specs.Tasks.{Task, Work, list, trace, replay, Asks, asks_list, asks_trace, asks_replay, IsAfter, word_of, list_task, trace_task, replay_task, ReplaysAs, IsReport, MayStand, MakesAs, RefusesTask}
 use Rattle.command_words.specs.Words.{Accepted, BadWord}
-use Rattle.concolic_cli.proofs.Calls.{Ending, at_words, at_report, at_source, at_file, at_output, at_memory, at_make, MakeEnding, at_line, at_made_source, at_made_output, at_made_memory, make_status, not_made, apart, run_in, small_of, small_in, trace_status}
-use Rattle.concolic_cli.proofs.Commands.{OneCommand, of_list, of_trace, one_task, not_make, has_after, has_command}
+use Rattle.replay.specs.Files.{IsTestsFile, IsRefusedAt}
+use Rattle.replay.proofs.FileLaws.{not_both}
+use Rattle.concolic_cli.proofs.Calls.{Ending, at_words, at_report, at_source, at_file, at_output, at_memory, at_make, MakeEnding, at_line, at_made_source, at_made_output, at_made_memory, make_status, not_made, apart, reports, listed_in, run_in, small_of, small_in, list_status, trace_status, replay_in, replayed_status}
+use Rattle.concolic_cli.proofs.Commands.{OneCommand, of_list, of_trace, of_replay, one_task, not_make, has_after, has_command}
 use Rattle.concolic_cli.proofs.Searches.{runs_of}
 
 -- ---- a source is no program and a refusal at once
@@ -63,23 +67,34 @@ unrefused one bytes entry p _ i (fault tokens tree f h read first) = subst (λ l
 unrefused one bytes entry p _ i (no_entry tokens tree h read well none) = let body = (none_faulty one bytes entry p i tokens tree h read).1 in cc (body, none)
 
 -- what is written is written for a program
-reported_unrefused : OneProgram → (bytes entry : List ℕ) (w : Work) (text other : List ℕ) (status : ℕ) → IsReport bytes entry w text status → Refuses bytes entry other → ⊥
-reported_unrefused one bytes entry (list b runs budget after) text other status h r = unrefused one bytes entry h.program other h.source r
-reported_unrefused one bytes entry (trace b map) text other status h r = unrefused one bytes entry h.program other h.source r
+reported_unrefused : OneProgram → (held : Option Held) (bytes entry : List ℕ) (w : Work) (text other : List ℕ) (status : ℕ) → IsReport held bytes entry w text status → Refuses bytes entry other → ⊥
+reported_unrefused one held bytes entry (list b runs budget after) text other status h r = unrefused one bytes entry h.program other h.source r
+reported_unrefused one held bytes entry (trace b map) text other status h r = unrefused one bytes entry h.program other h.source r
+reported_unrefused one held bytes entry (replay tests) text other status h r = unrefused one bytes entry h.program other h.source r
 
 -- nor does a part of it stand
-cut_unrefused : OneProgram → (bytes entry : List ℕ) (w : Work) (text other : List ℕ) → MayStand bytes entry w text → Refuses bytes entry other → ⊥
-cut_unrefused one bytes entry (list b runs budget after) text other h r = unrefused one bytes entry h.program other h.source r
-cut_unrefused one bytes entry (trace b map) text other h r = unrefused one bytes entry (h.1).program other (h.1).source r
+cut_unrefused : OneProgram → (held : Option Held) (bytes entry : List ℕ) (w : Work) (text other : List ℕ) → MayStand held bytes entry w text → Refuses bytes entry other → ⊥
+cut_unrefused one held bytes entry (list b runs budget after) text other h r = unrefused one bytes entry h.program other h.source r
+cut_unrefused one held bytes entry (trace b map) text other h r = unrefused one bytes entry (h.1).program other (h.1).source r
+cut_unrefused one held bytes entry (replay tests) text other h r = unrefused one bytes entry (h.1).program other (h.1).source r
 
 -- a program is listed, and one with an input of the map text is traced
-list_unrefused : OneProgram → (bytes entry : List ℕ) (b : Limits) (runs budget : ℕ) (after : Option Path) (text : List ℕ) (p : Program) → IsProgram bytes entry p → RefusesTask bytes entry (list b runs budget after) text → ⊥
-list_unrefused one bytes entry b runs budget after text p i (inl r) = unrefused one bytes entry p text i r
-list_unrefused one bytes entry b runs budget after text p i (inr r) = r
+list_unrefused : OneProgram → (held : Option Held) (bytes entry : List ℕ) (b : Limits) (runs budget : ℕ) (after : Option Path) (text : List ℕ) (p : Program) → IsProgram bytes entry p → RefusesTask held bytes entry (list b runs budget after) text → ⊥
+list_unrefused one held bytes entry b runs budget after text p i (inl r) = unrefused one bytes entry p text i r
+list_unrefused one held bytes entry b runs budget after text p i (inr r) = r
 
-trace_unrefused : OneProgram → (bytes entry : List ℕ) (b : Limits) (map text : List ℕ) (h : Input) → IsMap map h → IsSourceOf bytes entry (λ p. IsInput p b h) → RefusesTask bytes entry (trace b map) text → ⊥
-trace_unrefused one bytes entry b map text h m s (inl r) = unrefused one bytes entry s.program text s.source r
-trace_unrefused one bytes entry b map text h m s (inr r) = (r.1).none h m (s.each (r.1).program (r.1).source)
+trace_unrefused : OneProgram → (held : Option Held) (bytes entry : List ℕ) (b : Limits) (map text : List ℕ) (h : Input) → IsMap map h → IsSourceOf bytes entry (λ p. IsInput p b h) → RefusesTask held bytes entry (trace b map) text → ⊥
+trace_unrefused one held bytes entry b map text h m s (inl r) = unrefused one bytes entry s.program text s.source r
+trace_unrefused one held bytes entry b map text h m s (inr r) = (r.1).none h m (s.each (r.1).program (r.1).source)
+
+-- tests that a file holds are replayed
+replay_unrefused : OneProgram → (held : Option Held) (bytes entry tests text file : List ℕ) → ((other : List ℕ) → ReadTests held tests other → other ≡ file) → IsSourceOf bytes entry (λ p. HoldsSome p file) → RefusesTask held bytes entry (replay tests) text → ⊥
+replay_unrefused one held bytes entry tests text file only s (inl r) = unrefused one bytes entry s.program text s.source r
+replay_unrefused one held bytes entry tests text file only s (inr r) =
+    let t = r.1 in
+    let same = only t.file t.read in
+    let h = s.each t.program t.source in
+    not_both t.program t.file r.0 t.refused h.0 h.1 h.2 (subst (λ u. IsTestsFile t.program u h.0 h.1 h.2) (sym same) h.3)
 
 -- ---- the counts of a complete listing
 
@@ -215,13 +230,13 @@ module _ (call : Call) (status : ℕ) (one : OneCommand) (answered : Ending call
     pub wrote : WroteLast n (call.seen).out_old (call.seen).out_new
     pub quiet : call.err_new ≡ call.err_old
 
-  made_of : (n : ℕ) → Accepted call.words (Make n) → MakeEnding call status n → In status (0 ∷ 1 ∷ 10 ∷ 11 ∷ []) → LineWritten
+  made_of : (n : ℕ) → Accepted call.words (Make n) → MakeEnding call status n → In status reports → LineWritten
   made_of n a (at_line e w q) h = record { n = n; accepted = a; wrote = w; quiet = q }
   made_of n a (at_made_source e text r said q) h = absurd (apart status h (omega (arith, e)) (omega (arith, e)))
   made_of n a (at_made_output e r w t) h = absurd (apart status h (omega (arith, e)) (omega (arith, e)))
   made_of n a (at_made_memory e w t) h = absurd (apart status h (omega (arith, e)) (omega (arith, e)))
 
-  wrote_of : (e : Ending call status) → In status (0 ∷ 1 ∷ 10 ∷ 11 ∷ []) → ReportWritten ⊎ LineWritten
+  wrote_of : (e : Ending call status) → In status reports → ReportWritten ⊎ LineWritten
   wrote_of (at_words n b e s t) h = absurd (apart status h (omega (arith, e)) (omega (arith, e)))
   wrote_of (at_report k a i w q) h = inl (record { task = k; asked = a; wrote = w; quiet = q })
   wrote_of (at_source e r q) h = absurd (apart status h (omega (arith, e)) (omega (arith, e)))
@@ -230,7 +245,7 @@ module _ (call : Call) (status : ℕ) (one : OneCommand) (answered : Ending call
   wrote_of (at_memory e k a p t) h = absurd (apart status h (omega (arith, e)) (omega (arith, e)))
   wrote_of (at_make n a m) h = inr (made_of n a m h)
 
-  pub quiet : In status (0 ∷ 1 ∷ 10 ∷ 11 ∷ []) → call.err_new ≡ call.err_old
+  pub quiet : In status (0 ∷ 1 ∷ 8 ∷ 10 ∷ 11 ∷ []) → call.err_new ≡ call.err_old
   quiet h = ⊎_elim (λ r. r.quiet) (λ m. m.quiet) (wrote_of answered h)
 
   made_run : (r : RunWords) → Accepted call.words (Run r) → LineWritten → ⊥
@@ -241,7 +256,19 @@ module _ (call : Call) (status : ℕ) (one : OneCommand) (answered : Ending call
 
   pub listed : (r : RunWords) (after : Option Path) → Accepted call.words (Run r) → IsAfter call.words r after → In status (0 ∷ 1 ∷ 10 ∷ 11 ∷ []) →
       Wrote (call.seen).held (call.seen).out_old (call.seen).out_new (list_task call.words r after) status
-  listed r after a f h = ⊎_elim (λ w. subst (λ k. Written k) (of_list one call.words w.task r after w.asked a f) w.wrote) (λ m. absurd (made_run r a m)) (wrote_of answered h)
+  listed r after a f h = ⊎_elim (λ w. subst (λ k. Written k) (of_list one call.words w.task r after w.asked a f) w.wrote) (λ m. absurd (made_run r a m)) (wrote_of answered (listed_in status h))
+
+  made_replay : (r : ReplayWords) → Accepted call.words (Replay r) → LineWritten → ⊥
+  made_replay r a m = let e = one call.words (Replay r) (Make m.n) a m.accepted in cc e
+
+  eight_in : In status (0 ∷ 8 ∷ []) → In status reports
+  eight_in (inl e) = inl e
+  eight_in (inr (inl e)) = inr (inr (inl e))
+  eight_in (inr (inr e)) = absurd e
+
+  pub replayed : (r : ReplayWords) → Accepted call.words (Replay r) → In status (0 ∷ 8 ∷ []) →
+      Wrote (call.seen).held (call.seen).out_old (call.seen).out_new (replay_task call.words r) status
+  replayed r a h = ⊎_elim (λ w. subst (λ k. Written k) (of_replay one call.words w.task r w.asked a) w.wrote) (λ m. absurd (made_replay r a m)) (wrote_of answered (eight_in h))
 
   same_branches : (n : ℕ) → Accepted call.words (Make n) → (m : LineWritten) → m.n ≡ n
   same_branches n a m = let e = one call.words (Make m.n) (Make n) m.accepted a in cc e
@@ -354,19 +381,19 @@ module _ (call : Call) (status : ℕ) (one : OneCommand) (answered : Ending call
   pub silent : 2 ≤ status → status ≤ 4 → (call.seen).out_new ≡ (call.seen).out_old
   silent = silent_of answered
 
-  every : In status (0 ∷ 1 ∷ 10 ∷ 11 ∷ []) → In status (0 ∷ 1 ∷ 2 ∷ 3 ∷ 4 ∷ 5 ∷ 7 ∷ 10 ∷ 11 ∷ [])
+  every : In status reports → In status (0 ∷ 1 ∷ 2 ∷ 3 ∷ 4 ∷ 5 ∷ 7 ∷ 8 ∷ 10 ∷ 11 ∷ [])
   every (inl e) = inl e
   every (inr (inl e)) = inr (inl e)
   every (inr (inr h)) = inr (inr (inr (inr (inr (inr (inr h))))))
 
-  made_every : In status (0 ∷ 3 ∷ 5 ∷ 7 ∷ []) → In status (0 ∷ 1 ∷ 2 ∷ 3 ∷ 4 ∷ 5 ∷ 7 ∷ 10 ∷ 11 ∷ [])
+  made_every : In status (0 ∷ 3 ∷ 5 ∷ 7 ∷ []) → In status (0 ∷ 1 ∷ 2 ∷ 3 ∷ 4 ∷ 5 ∷ 7 ∷ 8 ∷ 10 ∷ 11 ∷ [])
   made_every (inl e) = inl e
   made_every (inr (inl e)) = inr (inr (inr (inl e)))
   made_every (inr (inr (inl e))) = inr (inr (inr (inr (inr (inl e)))))
   made_every (inr (inr (inr (inl e)))) = inr (inr (inr (inr (inr (inr (inl e))))))
   made_every (inr (inr (inr (inr e)))) = absurd e
 
-  statuses_of : (e : Ending call status) → In status (0 ∷ 1 ∷ 2 ∷ 3 ∷ 4 ∷ 5 ∷ 7 ∷ 10 ∷ 11 ∷ [])
+  statuses_of : (e : Ending call status) → In status (0 ∷ 1 ∷ 2 ∷ 3 ∷ 4 ∷ 5 ∷ 7 ∷ 8 ∷ 10 ∷ 11 ∷ [])
   statuses_of (at_words n b e s t) = inr (inr (inl e))
   statuses_of (at_report k a i w q) = every i
   statuses_of (at_source e r q) = inr (inr (inr (inl e)))
@@ -375,15 +402,20 @@ module _ (call : Call) (status : ℕ) (one : OneCommand) (answered : Ending call
   statuses_of (at_memory e k a p t) = inr (inr (inr (inr (inr (inr (inl e))))))
   statuses_of (at_make n a m) = made_every (make_status call status n m)
 
-  pub statuses : In status (0 ∷ 1 ∷ 2 ∷ 3 ∷ 4 ∷ 5 ∷ 7 ∷ 10 ∷ 11 ∷ [])
+  pub statuses : In status (0 ∷ 1 ∷ 2 ∷ 3 ∷ 4 ∷ 5 ∷ 7 ∷ 8 ∷ 10 ∷ 11 ∷ [])
   statuses = statuses_of answered
 
   -- of a list alone come 10 and 11
   run_of : (k : Task) → Asks call.words k → Written k → 10 ≤ status → (r : RunWords) × Accepted call.words (Run r)
   run_of _ (asks_list r after a f) w l = (r, a)
   run_of _ (asks_trace t a) w l =
-      let s = trace_status w.bytes (trace_task call.words t).entry (trace_task call.words t).work w.text status w.report l in
-      let e = s.4 in absurd (cc e)
+      let s = trace_status (call.seen).held w.bytes (trace_task call.words t).entry t.bounds (word_of call.words t.map) w.text status w.report in
+      absurd (omega (arith, s, l))
+  run_of _ (asks_replay r a) w l = absurd (zero_or_eight (replayed_status (call.seen).held w.bytes (replay_task call.words r).entry (word_of call.words r.tests) w.text status w.report) l)
+    where
+      zero_or_eight : (status ≡ 0) ⊎ (status ≡ 8) → 10 ≤ status → ⊥
+      zero_or_eight (inl e) h = omega (arith, e, h)
+      zero_or_eight (inr e) h = omega (arith, e, h)
 
   made_low : In status (0 ∷ 3 ∷ 5 ∷ 7 ∷ []) → 10 ≤ status → ⊥
   made_low (inl e) h = omega (arith, e, h)
@@ -400,6 +432,31 @@ module _ (call : Call) (status : ℕ) (one : OneCommand) (answered : Ending call
   alone_of (at_output e r k a p t) h = absurd (omega (arith, e, h))
   alone_of (at_memory e k a p t) h = absurd (omega (arith, e, h))
   alone_of (at_make n a m) h = absurd (made_low (make_status call status n m) h)
+
+  -- of a replay alone comes 8
+  replay_of : (k : Task) → Asks call.words k → Written k → status ≡ 8 → (r : ReplayWords) × Accepted call.words (Replay r)
+  replay_of _ (asks_list r after a f) w e = absurd (no_eight (list_status (call.seen).held w.bytes (list_task call.words r after).entry r.bounds r.runs r.budget after w.text status w.report) e)
+    where
+      no_eight : In status (0 ∷ 1 ∷ 10 ∷ 11 ∷ []) → status ≡ 8 → ⊥
+      no_eight (inl f) e = omega (arith, e, f)
+      no_eight (inr (inl f)) e = omega (arith, e, f)
+      no_eight (inr (inr (inl f))) e = omega (arith, e, f)
+      no_eight (inr (inr (inr (inl f)))) e = omega (arith, e, f)
+      no_eight (inr (inr (inr (inr f)))) e = f
+  replay_of _ (asks_trace t a) w e = let s = trace_status (call.seen).held w.bytes (trace_task call.words t).entry t.bounds (word_of call.words t.map) w.text status w.report in absurd (omega (arith, s, e))
+  replay_of _ (asks_replay r a) w e = (r, a)
+
+  replay_alone_of : (e : Ending call status) → status ≡ 8 → (r : ReplayWords) × Accepted call.words (Replay r)
+  replay_alone_of (at_words n b e s t) h = absurd (omega (arith, e, h))
+  replay_alone_of (at_report k a i w q) h = replay_of k a w h
+  replay_alone_of (at_source e r q) h = absurd (omega (arith, e, h))
+  replay_alone_of (at_file e r q) h = absurd (omega (arith, e, h))
+  replay_alone_of (at_output e r k a p t) h = absurd (omega (arith, e, h))
+  replay_alone_of (at_memory e k a p t) h = absurd (omega (arith, e, h))
+  replay_alone_of (at_make n a m) h = absurd (not_made status 8 (make_status call status n m) h (λ e. omega (arith, e)) (λ e. omega (arith, e)) (λ e. omega (arith, e)) (λ e. omega (arith, e)))
+
+  pub replay_alone : status ≡ 8 → (r : ReplayWords) × Accepted call.words (Replay r)
+  replay_alone = replay_alone_of answered
 
   pub run_alone : 10 ≤ status → (r : RunWords) × Accepted call.words (Run r)
   run_alone = alone_of answered
@@ -455,63 +512,82 @@ module _ (call : Call) (status : ℕ) (one : OneCommand) (answered : Ending call
 
     -- the files hold a source under the word FILE
     module _ (bytes : List ℕ) (i : IsSource task (call.seen).held bytes) where
-      -- the only fault of the file can be that the files failed
-      file_failed : (k : Task) (what : List ℕ) → Asks call.words k → FileFault (call.seen).held (call.seen).files_old (call.seen).files_new k.file what →
+      -- the tests file, where the task names one, is held and short
+      TestsFine : Type 0
+      TestsFine = (tests : List ℕ) → task.work ≡ replay tests → (file : List ℕ) × (file_of tests i.files ≡ Some file) × (length file ≤ tests_limit)
+
+      -- the only fault of a file that is held and short can be that the files failed
+      held_failed : (name file : List ℕ) (limit : ℕ) → file_of name i.files ≡ Some file → length file ≤ limit → (what : List ℕ) → FileFault limit (call.seen).held (call.seen).files_old (call.seen).files_new name what →
           Rose (call.seen).files_old (call.seen).files_new
-      file_failed k what b (inl h) =
-          let same = one_task one call.words k task b a in
-          let gone : file_of task.file i.files ≡ None = subst (λ u. file_of u.file i.files ≡ None) same (h.1 i.files i.told) in
-          let there = i.file in
-          absurd (cc (there, gone))
-      file_failed k what b (inr (inl h)) =
-          let same = one_task one call.words k task b a in
+      held_failed name file limit there short what (inl h) = let gone = h.1 i.files i.told in absurd (cc (there, gone))
+      held_failed name file limit there short what (inr (inl h)) =
           let l = h.1 i.files i.told in
-          let there : file_of task.file i.files ≡ Some l.0 = subst (λ u. file_of u.file i.files ≡ Some l.0) same l.1 in
-          let here = i.file in
-          let e : l.0 ≡ bytes = cc (there, here) in
-          let short : length l.0 ≤ 1048576 = subst (λ u. length u ≤ 1048576) (sym e) i.short in
-          absurd (omega (arith, short, l.2))
-      file_failed k what b (inr (inr h)) = h.1
+          let e : l.0 ≡ file = cc (l.1, there) in
+          let s : length l.0 ≤ limit = subst (λ u. length u ≤ limit) (sym e) short in
+          absurd (omega (arith, s, l.2))
+      held_failed name file limit there short what (inr (inr h)) = h.1
+
+      -- no tests of a program of these bytes are replayed
+      NoTests : Type 0
+      NoTests = (tests : List ℕ) (p : Program) → task.work ≡ replay tests → IsProgram bytes task.entry p → ⊥
+
+      named_failed : TestsFine ⊎ NoTests → (k : Task) (name : List ℕ) (limit : ℕ) (what : List ℕ) → Asks call.words k → NamesFile (call.seen).held k name limit →
+          FileFault limit (call.seen).held (call.seen).files_old (call.seen).files_new name what → Rose (call.seen).files_old (call.seen).files_new
+      named_failed fine k _ _ what b its_source h =
+          let same = one_task one call.words k task b a in
+          held_failed k.file bytes source_limit (subst (λ u. file_of u.file i.files ≡ Some bytes) (sym same) i.file) i.short what h
+      named_failed (inl fine) k _ _ what b (its_tests tests c p named read source) h =
+          let same = one_task one call.words k task b a in
+          let f = fine tests (ap (λ (u : Task). u.work) (sym same) ∙ named) in
+          held_failed tests f.0 tests_limit f.1 f.2 what h
+      named_failed (inr none) k _ _ what b (its_tests tests c p named read source) h =
+          let same = one_task one call.words k task b a in
+          let whole = subst (λ u. IsProgram u k.entry p) (same_bytes i.files i.told k c bytes b i.file read) source in
+          absurd (none tests p (ap (λ (u : Task). u.work) (sym same) ∙ named) (subst (λ u. IsProgram bytes u.entry p) same whole))
+
+      file_failed : TestsFine ⊎ NoTests → FileIsRefused call.words (call.seen).held (call.seen).files_old (call.seen).files_new call.err_old call.err_new call.err_faults_old call.err_faults_new →
+          Rose (call.seen).files_old (call.seen).files_new
+      file_failed fine r = named_failed fine r.task r.name r.limit r.what r.asked r.names r.cause
 
       -- what was written is written for these bytes and this task
-      reported : (k : Task) (c text : List ℕ) (n : ℕ) → Asks call.words k → ReadAs (call.seen).held k.file c → IsReport c k.entry k.work text n → IsReport bytes task.entry task.work text n
+      reported : (k : Task) (c text : List ℕ) (n : ℕ) → Asks call.words k → ReadAs (call.seen).held k.file c → IsReport (call.seen).held c k.entry k.work text n → IsReport (call.seen).held bytes task.entry task.work text n
       reported k c text n b read r =
           let same = one_task one call.words k task b a in
-          subst (λ u. IsReport bytes u.entry u.work text n) same (subst (λ d. IsReport d k.entry k.work text n) (same_bytes i.files i.told k c bytes b i.file read) r)
+          subst (λ u. IsReport (call.seen).held bytes u.entry u.work text n) same (subst (λ d. IsReport (call.seen).held d k.entry k.work text n) (same_bytes i.files i.told k c bytes b i.file read) r)
 
-      refused : (r : SourceIsRefused call.words (call.seen).held call.err_old call.err_new call.err_faults_old call.err_faults_new) → RefusesTask bytes task.entry task.work r.text
+      refused : (r : SourceIsRefused call.words (call.seen).held call.err_old call.err_new call.err_faults_old call.err_faults_new) → RefusesTask (call.seen).held bytes task.entry task.work r.text
       refused r =
           let same = one_task one call.words r.task task r.asked a in
-          subst (λ u. RefusesTask bytes u.entry u.work r.text) same
-          (subst (λ d. RefusesTask d (r.task).entry (r.task).work r.text) (same_bytes i.files i.told r.task r.bytes bytes r.asked i.file r.read) r.refused)
+          subst (λ u. RefusesTask (call.seen).held bytes u.entry u.work r.text) same
+          (subst (λ d. RefusesTask (call.seen).held d (r.task).entry (r.task).work r.text) (same_bytes i.files i.told r.task r.bytes bytes r.asked i.file r.read) r.refused)
 
-      may_stand : (k : Task) (c text : List ℕ) → Asks call.words k → ReadAs (call.seen).held k.file c → MayStand c k.entry k.work text → MayStand bytes task.entry task.work text
+      may_stand : (k : Task) (c text : List ℕ) → Asks call.words k → ReadAs (call.seen).held k.file c → MayStand (call.seen).held c k.entry k.work text → MayStand (call.seen).held bytes task.entry task.work text
       may_stand k c text b read r =
           let same = one_task one call.words k task b a in
-          subst (λ u. MayStand bytes u.entry u.work text) same (subst (λ d. MayStand d k.entry k.work text) (same_bytes i.files i.told k c bytes b i.file read) r)
+          subst (λ u. MayStand (call.seen).held bytes u.entry u.work text) same (subst (λ d. MayStand (call.seen).held d k.entry k.work text) (same_bytes i.files i.told k c bytes b i.file read) r)
 
       -- where nothing can stand for them, the call is refused
-      refusal_of : (e : Ending call status) → ((text : List ℕ) (n : ℕ) → IsReport bytes task.entry task.work text n → ⊥) → ((text : List ℕ) → MayStand bytes task.entry task.work text → ⊥) →
+      refusal_of : TestsFine ⊎ NoTests → (e : Ending call status) → ((text : List ℕ) (n : ℕ) → IsReport (call.seen).held bytes task.entry task.work text n → ⊥) → ((text : List ℕ) → MayStand (call.seen).held bytes task.entry task.work text → ⊥) →
           IsRefusal (call.seen).files_old (call.seen).files_new status
-      refusal_of (at_words n b e s t) none cut = let c = has_command call.words task a in absurd (b.refused c.0 c.1)
-      refusal_of (at_report k b j w q) none cut = absurd (none w.text status (reported k w.bytes w.text status b w.read w.report))
-      refusal_of (at_source e r q) none cut = inl e
-      refusal_of (at_file e r q) none cut = inr (inr (e, file_failed r.task r.what r.asked r.cause))
-      refusal_of (at_output e r k b p t) none cut = absurd (cut p.text (may_stand k p.bytes p.text b p.read p.may))
-      refusal_of (at_memory e k b p t) none cut = inr (inl e)
-      refusal_of (at_make n b m) none cut = absurd (not_make one call.words task n a b)
+      refusal_of fine (at_words n b e s t) none cut = let c = has_command call.words task a in absurd (b.refused c.0 c.1)
+      refusal_of fine (at_report k b j w q) none cut = absurd (none w.text status (reported k w.bytes w.text status b w.read w.report))
+      refusal_of fine (at_source e r q) none cut = inl e
+      refusal_of fine (at_file e r q) none cut = inr (inr (e, file_failed fine r))
+      refusal_of fine (at_output e r k b p t) none cut = absurd (cut p.text (may_stand k p.bytes p.text b p.read p.may))
+      refusal_of fine (at_memory e k b p t) none cut = inr (inl e)
+      refusal_of fine (at_make n b m) none cut = absurd (not_make one call.words task n a b)
 
       -- where they are not refused and nothing fails, the text is written, or memory is wanting
-      report_of : (e : Ending call status) → ((text : List ℕ) → RefusesTask bytes task.entry task.work text → ⊥) →
+      report_of : TestsFine → (e : Ending call status) → ((text : List ℕ) → RefusesTask (call.seen).held bytes task.entry task.work text → ⊥) →
           (Rose (call.seen).files_old (call.seen).files_new → ⊥) → (Rose (call.seen).faults_old (call.seen).faults_new → ⊥) →
-          (status ≡ 7) ⊎ (In status (0 ∷ 1 ∷ 10 ∷ 11 ∷ []) × Written task)
-      report_of (at_words n b e s t) none f o = let c = has_command call.words task a in absurd (b.refused c.0 c.1)
-      report_of (at_report k b j w q) none f o = inr (j, subst (λ u. Written u) (one_task one call.words k task b a) w)
-      report_of (at_source e r q) none f o = absurd (none r.text (refused r))
-      report_of (at_file e r q) none f o = absurd (f (file_failed r.task r.what r.asked r.cause))
-      report_of (at_output e r k b p t) none f o = absurd (o r)
-      report_of (at_memory e k b p t) none f o = inl e
-      report_of (at_make n b m) none f o = absurd (not_make one call.words task n a b)
+          (status ≡ 7) ⊎ Written task
+      report_of fine (at_words n b e s t) none f o = let c = has_command call.words task a in absurd (b.refused c.0 c.1)
+      report_of fine (at_report k b j w q) none f o = inr (subst (λ u. Written u) (one_task one call.words k task b a) w)
+      report_of fine (at_source e r q) none f o = absurd (none r.text (refused r))
+      report_of fine (at_file e r q) none f o = absurd (f (file_failed (inl fine) r))
+      report_of fine (at_output e r k b p t) none f o = absurd (o r)
+      report_of fine (at_memory e k b p t) none f o = inl e
+      report_of fine (at_make n b m) none f o = absurd (not_make one call.words task n a b)
 
       -- the bytes that were read are those that the files hold
       read_bytes : (w : Written task) → w.bytes ≡ bytes
@@ -519,12 +595,18 @@ module _ (call : Call) (status : ℕ) (one : OneCommand) (answered : Ending call
 
   pub refused_source : OneProgram → (task : Task) (bytes text : List ℕ) → Asks call.words task → IsSource task (call.seen).held bytes → Refuses bytes task.entry text →
       IsRefusal (call.seen).files_old (call.seen).files_new status
-  refused_source law task bytes text a i r = refusal_of task a bytes i answered (λ u n h. reported_unrefused law bytes task.entry task.work u text n h r) (λ u h. cut_unrefused law bytes task.entry task.work u text h r)
+  refused_source law task bytes text a i r = refusal_of task a bytes i (inr (λ tests p w is. unrefused law bytes task.entry p text is r)) answered (λ u n h. reported_unrefused law (call.seen).held bytes task.entry task.work u text n h r) (λ u h. cut_unrefused law (call.seen).held bytes task.entry task.work u text h r)
+
+  not_replay : {b : Limits} {map tests : List ℕ} → trace b map ≡ replay tests → ⊥
+  not_replay e = cc e
+
+  list_no_tests : {b : Limits} {n m : ℕ} {o : Option Path} {tests : List ℕ} → list b n m o ≡ replay tests → ⊥
+  list_no_tests e = cc e
 
   pub refused_map : (t : TraceWords) (bytes : List ℕ) (f : MapFault) → Accepted call.words (Trace t) → IsSource (trace_task call.words t) (call.seen).held bytes →
       IsSourceOf bytes (trace_task call.words t).entry (λ p. Refused p t.bounds (word_of call.words t.map) f) → IsRefusal (call.seen).files_old (call.seen).files_new status
   refused_map t bytes f a i s =
-      refusal_of (trace_task call.words t) (asks_trace t a) bytes i answered (λ u n h. h.unrefused f (s.each h.program h.source)) (λ u h. (h.1).unrefused f (s.each (h.1).program (h.1).source))
+      refusal_of (trace_task call.words t) (asks_trace t a) bytes i (inr (λ tests p w is. not_replay w)) answered (λ u n h. h.unrefused f (s.each h.program h.source)) (λ u h. (h.1).unrefused f (s.each (h.1).program (h.1).source))
 
   listed_or : In status (0 ∷ 1 ∷ 10 ∷ 11 ∷ []) → In status (0 ∷ 1 ∷ 7 ∷ 10 ∷ 11 ∷ [])
   listed_or (inl e) = inl e
@@ -535,16 +617,16 @@ module _ (call : Call) (status : ℕ) (one : OneCommand) (answered : Ending call
       IsSource (list_task call.words r after) (call.seen).held bytes → IsProgram bytes (list_task call.words r after).entry p →
       (Rose (call.seen).files_old (call.seen).files_new → ⊥) → (Rose (call.seen).faults_old (call.seen).faults_new → ⊥) → In status (0 ∷ 1 ∷ 7 ∷ 10 ∷ 11 ∷ [])
   answers_run law r after bytes p a names i is f o =
-      ⊎_elim (λ e. inr (inr (inl e))) (λ h. listed_or h.0)
-      (report_of (list_task call.words r after) (asks_list r after a names) bytes i answered (λ text t. list_unrefused law bytes (list_task call.words r after).entry r.bounds r.runs r.budget after text p is t) f o)
+      ⊎_elim (λ e. inr (inr (inl e))) (λ w. listed_or (list_status (call.seen).held w.bytes (list_task call.words r after).entry r.bounds r.runs r.budget after w.text status w.report))
+      (report_of (list_task call.words r after) (asks_list r after a names) bytes i (λ tests w. absurd (list_no_tests w)) answered (λ text t. list_unrefused law (call.seen).held bytes (list_task call.words r after).entry r.bounds r.runs r.budget after text p is t) f o)
 
   pub complete : OneProgram → (r : RunWords) (after : Option Path) (bytes : List ℕ) (paths : List Path) → Accepted call.words (Run r) → IsAfter call.words r after →
       IsSource (list_task call.words r after) (call.seen).held bytes → IsSourceOf bytes (list_task call.words r after).entry (λ p. IsEasy p r.bounds r.budget × HoldsPaths p r.bounds after paths) →
       length paths + room after ≤ r.runs → (Rose (call.seen).files_old (call.seen).files_new → ⊥) → (Rose (call.seen).faults_old (call.seen).faults_new → ⊥) →
       (status ≡ 7) ⊎ Headline call.words r (call.seen).held (call.seen).out_old (call.seen).out_new status
   complete law r after bytes paths a names i is few f o =
-      ⊎_elim (λ e. inl e) (λ w. inr (of_complete r after names w.1 (whole w.1)))
-      (report_of (list_task call.words r after) (asks_list r after a names) bytes i answered (λ text t. list_unrefused law bytes (list_task call.words r after).entry r.bounds r.runs r.budget after text is.program is.source t) f o)
+      ⊎_elim (λ e. inl e) (λ w. inr (of_complete r after names w (whole w)))
+      (report_of (list_task call.words r after) (asks_list r after a names) bytes i (λ tests w. absurd (list_no_tests w)) answered (λ text t. list_unrefused law (call.seen).held bytes (list_task call.words r after).entry r.bounds r.runs r.budget after text is.program is.source t) f o)
     where
       whole : (w : Written (list_task call.words r after)) → IsComplete ((w.report).listing)
       whole w =
@@ -561,11 +643,43 @@ module _ (call : Call) (status : ℕ) (one : OneCommand) (answered : Ending call
       IsMap (word_of call.words t.map) h → IsSourceOf bytes (trace_task call.words t).entry (λ p. IsInput p t.bounds h) →
       (Rose (call.seen).files_old (call.seen).files_new → ⊥) → (Rose (call.seen).faults_old (call.seen).faults_new → ⊥) → In status (0 ∷ 1 ∷ 7 ∷ [])
   complete_trace law t bytes h a i m s f o =
-      low_or (⊎_elim (λ e. inl e) (λ w. inr (told_status w.1))
-      (report_of (trace_task call.words t) (asks_trace t a) bytes i answered (λ text r. trace_unrefused law bytes (trace_task call.words t).entry t.bounds (word_of call.words t.map) text h m s r) f o))
+      low_or (⊎_elim (λ e. inl e) (λ w. inr (told_status w))
+      (report_of (trace_task call.words t) (asks_trace t a) bytes i (λ tests w. absurd (not_replay w)) answered (λ text r. trace_unrefused law (call.seen).held bytes (trace_task call.words t).entry t.bounds (word_of call.words t.map) text h m s r) f o))
     where
       told_status : Written (trace_task call.words t) → status ≤ 1
       told_status w = run_in (is_fault (end_at (w.report).program t.bounds (w.report).input)) status (w.report).verdict
+
+  -- ---- `replay`
+
+  module _ (law : OneProgram) (r : ReplayWords) (bytes file : List ℕ) (a : Accepted call.words (Replay r)) (i : IsSource (replay_task call.words r) (call.seen).held bytes)
+      (there : file_of (word_of call.words r.tests) i.files ≡ Some file) (short : length file ≤ tests_limit) where
+    tests_name : {tests other : List ℕ} → replay tests ≡ replay other → tests ≡ other
+    tests_name e = cc e
+
+    fine : (tests : List ℕ) → replay (word_of call.words r.tests) ≡ replay tests → (f : List ℕ) × (file_of tests i.files ≡ Some f) × (length f ≤ tests_limit)
+    fine tests e = (file, subst (λ n. file_of n i.files ≡ Some file) (tests_name e) there, short)
+
+    only : (other : List ℕ) → ReadTests (call.seen).held (word_of call.words r.tests) other → other ≡ file
+    only other read = let f : file_of (word_of call.words r.tests) i.files ≡ Some other = read.told i.files i.told in cc (f, there)
+
+    seven_or : (status ≡ 7) ⊎ Written (replay_task call.words r) → In status (0 ∷ 7 ∷ 8 ∷ [])
+    seven_or (inl e) = inr (inl e)
+    seven_or (inr w) = ⊎_elim (λ e. inl e) (λ e. inr (inr (inl e))) (replayed_status (call.seen).held w.bytes (replay_task call.words r).entry (word_of call.words r.tests) w.text status w.report)
+
+    pub answers_replay : IsSourceOf bytes (replay_task call.words r).entry (λ p. HoldsSome p file) →
+        (Rose (call.seen).files_old (call.seen).files_new → ⊥) → (Rose (call.seen).faults_old (call.seen).faults_new → ⊥) → In status (0 ∷ 7 ∷ 8 ∷ [])
+    answers_replay s f o =
+        seven_or (report_of (replay_task call.words r) (asks_replay r a) bytes i fine answered
+        (λ text t. replay_unrefused law (call.seen).held bytes (replay_task call.words r).entry (word_of call.words r.tests) text file only s t) f o)
+
+    pub refused_tests : (line : ℕ) → IsSourceOf bytes (replay_task call.words r).entry (λ p. IsRefusedAt p file line) → IsRefusal (call.seen).files_old (call.seen).files_new status
+    refused_tests line s =
+        refusal_of (replay_task call.words r) (asks_replay r a) bytes i (inl fine) answered (λ u n h. neither h) (λ u h. neither h.1)
+      where
+        neither : {text : List ℕ} {n : ℕ} → ReplaysAs (call.seen).held bytes (replay_task call.words r).entry (word_of call.words r.tests) text n → ⊥
+        neither h =
+            let same = only h.file h.read in
+            not_both h.program file line (s.each h.program h.source) h.bounds h.all h.lines (subst (λ u. IsTestsFile h.program u h.bounds h.all h.lines) same h.holds)
 
   -- ---- `make`
 

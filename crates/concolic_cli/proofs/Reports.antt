@@ -19,7 +19,8 @@ use Rattle.concolic_cli.specs.declared.prepared.Traced.{Traced}
 use Rattle.concolic_cli.specs.declared.refusal.Refusal.TheVariants as refusal
 use Rattle.concolic_cli.specs.Prepared.{IsRun, IsTraced}
 use Rattle.concolic_cli.specs.Programs.{ReadsAs}
-use Rattle.concolic_cli.specs.Session.{ReadAs, Wrote, WroteFirst}
+use Rattle.concolic_cli.specs.Loaded.{ReadAs}
+use Rattle.concolic_cli.specs.Session.{Wrote, WroteFirst}
 use Rattle.concolic_cli.specs.Tasks.{TracesAs, trace}
 use Rattle.concolic_cli.specs.TraceText.{trace_text}
 use Rattle.concolic_cli.proofs.Causes.{program_of, read_as}

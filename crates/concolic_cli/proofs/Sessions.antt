@@ -10,7 +10,8 @@ use Rattle.cc_outside.specs.Told.{appended, WritesPart}
 use Rattle.concolic_cli.specs.declared.prepared.Compiled.{Compiled}
 use Rattle.concolic_cli.specs.Compiling.{IsCompiled, WroteListing, WroteSome, IsLastLine}
 use Rattle.concolic_cli.specs.Made.{made_source, made_entry, made_bounds, made_budget}
-use Rattle.concolic_cli.specs.Session.{ReadAs, Wrote, WroteFirst, WroteLast, WroteLastFirst}
+use Rattle.concolic_cli.specs.Loaded.{ReadAs}
+use Rattle.concolic_cli.specs.Session.{Wrote, WroteFirst, WroteLast, WroteLastFirst}
 use Rattle.concolic_cli.specs.Tasks.{list, MakesAs}
 use Rattle.concolic_cli.proofs.Causes.{program_of}
 

@@ -1,5 +1,7 @@
 -- What the tool promises of a call.
 use Rattle.std.specs.Prelude.{ℕ, ◌≡◌, ◌<◌, ◌≤◌, ◌⊎◌, List, [], ◌++◌, length, Option, Some, None, codes}
+use Rattle.cc_base.specs.declared.inputs.Test.{Test}
+use Rattle.cc_base.specs.Limits.{Limits}
 use Rattle.cc_base.specs.Paths.{Path}
 use Rattle.cc_model.specs.declared.commands.Command.{Command}
 use Rattle.cc_model.specs.declared.commands.Command.TheVariants.{Make}
@@ -12,13 +14,15 @@ use Rattle.cc_model.specs.Tested.{tested}
 use Rattle.cc_outside.specs.Faults.{Rose}
 use Rattle.cc_outside.specs.Held.{Held, file_of}
 use Rattle.cc_outside.specs.Told.{appended}
+use Rattle.replay.specs.Files.{IsTestsFile}
 use Rattle.concolic_cli.specs.declared.refusal.Refusal.{Refusal}
 use Rattle.concolic_cli.specs.Listings.{MissesNoMore}
 use Rattle.concolic_cli.specs.Made.{made_source, made_entry}
-use Rattle.concolic_cli.specs.Refusals.{bad_word_text, file_text, Says, IsAnswered}
-use Rattle.concolic_cli.specs.Session.{ReadAs, Seen, Wrote, Stands, Cause, WroteLast, LastStands, MadeCause}
+use Rattle.concolic_cli.specs.Loaded.{source_limit, tests_limit, ReadAs, IsMissing, IsTooLong}
+use Rattle.concolic_cli.specs.Refusals.{Names, bad_word_text, file_text, Says, IsAnswered}
+use Rattle.concolic_cli.specs.Session.{Seen, Wrote, Stands, Cause, WroteLast, LastStands, MadeCause}
 use Rattle.concolic_cli.specs.Sources.{Refuses}
-use Rattle.concolic_cli.specs.Tasks.{Task, Asks, IsAfter, word_of, RefusesTask}
+use Rattle.concolic_cli.specs.Tasks.{Task, Work, list, trace, replay, Asks, IsAfter, word_of, RefusesTask}
 use Rattle.command_words.specs.Words.{Accepted, BadWord}
 
 -- the words are no command
@@ -30,7 +34,7 @@ pub record IsSource (task : Task) (held : Option Held) (bytes : List ℕ) : Type
   pub files : Held
   pub told : held ≡ Some files
   pub file : file_of task.file files ≡ Some bytes
-  pub short : length bytes ≤ 1048576
+  pub short : length bytes ≤ source_limit
 
 -- The bytes are the source of a program, and so it is of each program that they are the source of: the rules leave open how
 -- types are numbered, and in nothing else do these programs differ.
@@ -75,14 +79,14 @@ pub record NothingMissedBut (words : List (List ℕ)) (run : RunWords) (held : O
   pub written : out_new ≡ appended out_old (report_text listing)
   pub verdict : status ≡ verdict_of listing
 
--- the source is refused, or for `trace` the map is, and the text is said
+-- the source is refused, or for `trace` the map is, or for `replay` the tests file, and the text is said
 pub record SourceIsRefused (words : List (List ℕ)) (held : Option Held) (err_old err_new : Option (List ℕ)) (faults_old faults_new : ℕ) : Type 0 where
   pub task : Task
   pub asked : Asks words task
   pub bytes : List ℕ
   pub text : List ℕ
   pub read : ReadAs held task.file bytes
-  pub refused : RefusesTask bytes task.entry task.work text
+  pub refused : RefusesTask held bytes task.entry task.work text
   pub said : Says err_old err_new faults_old faults_new (text ++ newline)
 
 -- the source that `make` builds is refused, and the text is said
@@ -94,28 +98,57 @@ pub record MadeIsRefused (words : List (List ℕ)) (err_old err_new : Option (Li
   pub said : Says err_old err_new faults_old faults_new (text ++ newline)
 
 -- there is no such file, it is too long, or the files failed
-abbrev pub FileFault : Option Held → (files_old files_new : ℕ) → List ℕ → List ℕ → Type 0
-FileFault held files_old files_new file what =
-    ((what ≡ codes "missing") × ((h : Held) → held ≡ Some h → file_of file h ≡ None))
-    ⊎ (((what ≡ codes "too long") × ((h : Held) → held ≡ Some h → (bytes : List ℕ) × (file_of file h ≡ Some bytes) × (1048576 < length bytes)))
+abbrev pub FileFault : ℕ → Option Held → (files_old files_new : ℕ) → List ℕ → List ℕ → Type 0
+FileFault limit held files_old files_new file what =
+    ((what ≡ codes "missing") × IsMissing held file)
+    ⊎ (((what ≡ codes "too long") × IsTooLong limit held file)
     ⊎ ((what ≡ codes "failed") × Rose files_old files_new))
+
+-- a file that the task names, and how many bytes it may have: that of the source, or, where the source was read and is a program,
+-- that of the tests that are replayed
+pub data NamesFile (held : Option Held) (task : Task) : List ℕ → ℕ → Type 0 where
+  its_source : NamesFile held task task.file source_limit
+  its_tests : (tests bytes : List ℕ) → (p : Program) → task.work ≡ replay tests → ReadAs held task.file bytes → IsProgram bytes task.entry p →
+      NamesFile held task tests tests_limit
 
 -- the file is refused, and its text is said
 pub record FileIsRefused (words : List (List ℕ)) (held : Option Held) (files_old files_new : ℕ) (err_old err_new : Option (List ℕ)) (faults_old faults_new : ℕ) : Type 0 where
   pub task : Task
   pub asked : Asks words task
+  pub name : List ℕ
+  pub limit : ℕ
+  pub names : NamesFile held task name limit
   pub what : List ℕ
-  pub cause : FileFault held files_old files_new task.file what
-  pub said : Says err_old err_new faults_old faults_new (file_text task.file what ++ newline)
+  pub cause : FileFault limit held files_old files_new name what
+  pub said : Says err_old err_new faults_old faults_new (file_text name what ++ newline)
 
 -- what stands after a failure: nothing was written, or a first part of what the words ask for
 pub data PartStands (words : List (List ℕ)) (held : Option Held) (out_old out_new : Option (List ℕ)) : Type 0 where
   of_task : (task : Task) → Asks words task → Stands held out_old out_new task → PartStands words held out_old out_new
   of_make : (n : ℕ) → Accepted words (Make n) → LastStands n out_old out_new → PartStands words held out_old out_new
 
+-- the text is a tests file, for the program
+abbrev pub HoldsSome : Program → List ℕ → Type 0
+HoldsSome p file = (b : Limits) × (tests : List Test) × (lines : List ℕ) × IsTestsFile p file b tests lines
+
 -- a refusal: 3, or want of memory, or the files failed
 abbrev pub IsRefusal : (files_old files_new : ℕ) → (status : ℕ) → Type 0
 IsRefusal files_old files_new status = (status ≡ 3) ⊎ ((status ≡ 7) ⊎ ((status ≡ 4) × Rose files_old files_new))
+
+-- the words that a text may name
+abbrev pub tests_of : Work → List ℕ
+tests_of (list b runs budget after) = []
+tests_of (trace b map) = []
+tests_of (replay tests) = tests
+
+abbrev pub names_of : Task → Names
+names_of task = record { file = task.file; entry = task.entry; tests = tests_of task.work }
+
+abbrev pub no_names : Names
+no_names = record { file = []; entry = []; tests = [] }
+
+abbrev pub made_names : Names
+made_names = record { file = []; entry = made_entry; tests = [] }
 
 -- ---- what a call comes to
 
@@ -135,7 +168,7 @@ pub data Answered (call : Call) (status : ℕ) : Type 0 where
   done : (task : Task) → Asks call.words task → Wrote (call.seen).held (call.seen).out_old (call.seen).out_new task status →
       call.err_new ≡ call.err_old → Answered call status
   refused : (task : Task) → (e : Refusal) → Asks call.words task → Cause call.seen task e →
-      IsAnswered call.err_old call.err_new call.err_faults_old call.err_faults_new task.file task.entry e status → Answered call status
+      IsAnswered call.err_old call.err_new call.err_faults_old call.err_faults_new (names_of task) e status → Answered call status
   made : (n : ℕ) → Accepted call.words (Make n) → WroteLast n (call.seen).out_old (call.seen).out_new → status ≡ 0 → call.err_new ≡ call.err_old → Answered call status
   unmade : (n : ℕ) → (e : Refusal) → Accepted call.words (Make n) → MadeCause n (call.seen).out_old (call.seen).out_new (call.seen).faults_old (call.seen).faults_new e →
-      IsAnswered call.err_old call.err_new call.err_faults_old call.err_faults_new [] made_entry e status → Answered call status
+      IsAnswered call.err_old call.err_new call.err_faults_old call.err_faults_new made_names e status → Answered call status

@@ -1,5 +1,7 @@
+pub mod Loaded
 pub mod Sources
 pub mod Refusals
+pub mod Named
 pub mod Listings
 pub mod Made
 pub mod TraceText
@@ -8,4 +10,5 @@ pub mod Session
 pub mod Programs
 pub mod Compiling
 pub mod Prepared
+pub mod Replaying
 pub mod Concolic

@@ -10,7 +10,7 @@ use Rattle.cc_outside.specs.Told.{appended, WritesPart}
 use Rattle.concolic_cli.specs.declared.refusal.Wrong.{Wrong}
 use Rattle.concolic_cli.specs.declared.refusal.Wrong.TheVariants.{BadByte, BadNumber, OpenComment, BadDirective, Syntax, TooDeep, UnknownName, DeclaredTwice, Mismatch, TooLarge}
 use Rattle.concolic_cli.specs.declared.refusal.Refusal.{Refusal}
-use Rattle.concolic_cli.specs.declared.refusal.Refusal.TheVariants.{BadWord, Missing, TooLong, FileFailed, Source, NoEntry, Map, OutputFailed, NoMemory}
+use Rattle.concolic_cli.specs.declared.refusal.Refusal.TheVariants.{BadWord, Missing, TooLong, FileFailed, Source, NoEntry, Map, TestsMissing, TestsTooLong, TestsFailed, Tests, OutputFailed, NoMemory}
 
 abbrev pub what_text : Wrong → List ℕ
 what_text BadByte = codes "bad byte"
@@ -55,21 +55,35 @@ map_refusal (map_fault.OutOfBounds address) = Map (map_fault.OutOfBounds address
 map_refusal (map_fault.StreamOutOfBounds place) = Map (map_fault.StreamOutOfBounds place)
 map_refusal map_fault.NoMemory = NoMemory
 
--- the text of a refusal, for the words FILE and ENTRY
-abbrev pub refusal_text : List ℕ → List ℕ → Refusal → List ℕ
-refusal_text file entry (BadWord n) = bad_word_text n
-refusal_text file entry Missing = file_text file (codes "missing")
-refusal_text file entry TooLong = file_text file (codes "too long")
-refusal_text file entry FileFailed = file_text file (codes "failed")
-refusal_text file entry (Source line wrong) = source_text line (what_text wrong)
-refusal_text file entry NoEntry = no_entry_text entry
-refusal_text file entry (Map fault) = map_text_of fault
-refusal_text file entry OutputFailed = codes "output failed"
-refusal_text file entry NoMemory = codes "no memory"
+-- tests LINE: malformed
+abbrev pub tests_text : ℕ → List ℕ
+tests_text line = codes "tests " ++ decimal line ++ codes ": malformed"
+
+-- the words that a text names
+pub record Names : Type 0 where
+  pub file : List ℕ
+  pub entry : List ℕ
+  pub tests : List ℕ
+
+-- the text of a refusal, for the words FILE, ENTRY and TESTS
+abbrev pub refusal_text : Names → Refusal → List ℕ
+refusal_text names (BadWord n) = bad_word_text n
+refusal_text names Missing = file_text names.file (codes "missing")
+refusal_text names TooLong = file_text names.file (codes "too long")
+refusal_text names FileFailed = file_text names.file (codes "failed")
+refusal_text names (Source line wrong) = source_text line (what_text wrong)
+refusal_text names NoEntry = no_entry_text names.entry
+refusal_text names (Map fault) = map_text_of fault
+refusal_text names TestsMissing = file_text names.tests (codes "missing")
+refusal_text names TestsTooLong = file_text names.tests (codes "too long")
+refusal_text names TestsFailed = file_text names.tests (codes "failed")
+refusal_text names (Tests line) = tests_text line
+refusal_text names OutputFailed = codes "output failed"
+refusal_text names NoMemory = codes "no memory"
 
 -- a text is said with a newline behind it
-abbrev pub refusal_line : List ℕ → List ℕ → Refusal → List ℕ
-refusal_line file entry e = refusal_text file entry e ++ newline
+abbrev pub refusal_line : Names → Refusal → List ℕ
+refusal_line names e = refusal_text names e ++ newline
 
 -- the status of a refusal
 abbrev pub status_of : Refusal → ℕ
@@ -80,6 +94,10 @@ status_of FileFailed = 4
 status_of (Source line wrong) = 3
 status_of NoEntry = 3
 status_of (Map fault) = 3
+status_of TestsMissing = 4
+status_of TestsTooLong = 4
+status_of TestsFailed = 4
+status_of (Tests line) = 3
 status_of OutputFailed = 5
 status_of NoMemory = 7
 
@@ -92,6 +110,10 @@ wants_memory FileFailed = true
 wants_memory (Source line wrong) = true
 wants_memory NoEntry = true
 wants_memory (Map fault) = true
+wants_memory TestsMissing = true
+wants_memory TestsTooLong = true
+wants_memory TestsFailed = true
+wants_memory (Tests line) = true
 wants_memory OutputFailed = false
 wants_memory NoMemory = false
 
@@ -101,7 +123,7 @@ abbrev pub Says : (old new : Option (List ℕ)) → (faults_old faults_new : ℕ
 Says old new faults_old faults_new line = (new ≡ appended old line) ⊎ (WritesPart old new line × Rose faults_old faults_new) ⊎ (new ≡ old)
 
 -- a refusal is answered by its status and its line; where the line's memory is wanting, as want of memory
-abbrev pub IsAnswered : (old new : Option (List ℕ)) → (faults_old faults_new : ℕ) → (file entry : List ℕ) → Refusal → ℕ → Type 0
-IsAnswered old new faults_old faults_new file entry e status =
-    ((status ≡ status_of e) × Says old new faults_old faults_new (refusal_line file entry e))
-    ⊎ (IsTrue (wants_memory e) × (status ≡ 7) × Says old new faults_old faults_new (refusal_line file entry NoMemory))
+abbrev pub IsAnswered : (old new : Option (List ℕ)) → (faults_old faults_new : ℕ) → Names → Refusal → ℕ → Type 0
+IsAnswered old new faults_old faults_new names e status =
+    ((status ≡ status_of e) × Says old new faults_old faults_new (refusal_line names e))
+    ⊎ (IsTrue (wants_memory e) × (status ≡ 7) × Says old new faults_old faults_new (refusal_line names NoMemory))

@@ -9,33 +9,36 @@ use Rattle.input_map.specs.declared.faults.MapFault.{MapFault}
 use Rattle.input_map.specs.CellFaults.{Refused}
 use Rattle.concolic_cli.specs.declared.answers.Status.{Status}
 use Rattle.concolic_cli.specs.declared.refusal.Refusal.{Refusal}
-use Rattle.concolic_cli.specs.declared.refusal.Refusal.TheVariants.{BadWord, Missing, TooLong, FileFailed, Source, NoEntry, Map, OutputFailed, NoMemory}
+use Rattle.concolic_cli.specs.declared.refusal.Refusal.TheVariants.{BadWord, Missing, TooLong, FileFailed, Source, NoEntry, Map, TestsMissing, TestsTooLong, TestsFailed, Tests, OutputFailed, NoMemory}
 use Rattle.concolic_cli.specs.Made.{made_source, made_entry}
 use Rattle.concolic_cli.specs.Refusals.{what_text}
 use Rattle.concolic_cli.specs.Sources.{Refuses, source_text, no_entry_text}
-use Rattle.concolic_cli.specs.Tasks.{Task, Work, list, trace, IsReport, MayStand, MakesAs, MapIsRefused}
-
--- the bytes are the file's, as far as the files tell, and no more than a source may have
-pub record ReadAs (held : Option Held) (file bytes : List ℕ) : Type 0 where
-  pub told : (h : Held) → held ≡ Some h → file_of file h ≡ Some bytes
-  pub short : length bytes ≤ 1048576
+use Rattle.concolic_cli.specs.Loaded.{source_limit, tests_limit, ReadAs, ReadTests, IsMissing, IsTooLong}
+use Rattle.cc_model.specs.Source.{IsProgram}
+use Rattle.replay.specs.Files.{IsRefusedAt}
+use Rattle.concolic_cli.specs.Tasks.{Task, Work, list, trace, replay, IsReport, MayStand, MakesAs, MapIsRefused}
 
 -- the cause of a refusal of the file
 abbrev pub FileCause : Option Held → (faults_old faults_new : ℕ) → List ℕ → Refusal → Type 0
-FileCause held old new file Missing = (h : Held) → held ≡ Some h → file_of file h ≡ None
-FileCause held old new file TooLong = (h : Held) → held ≡ Some h → (bytes : List ℕ) × (file_of file h ≡ Some bytes) × (1048576 < length bytes)
+FileCause held old new file Missing = IsMissing held file
+FileCause held old new file TooLong = IsTooLong source_limit held file
 FileCause held old new file FileFailed = Rose old new
 FileCause held old new file NoMemory = Unit {0}
 FileCause held old new file (BadWord n) = ⊥
 FileCause held old new file (Source line wrong) = ⊥
 FileCause held old new file NoEntry = ⊥
 FileCause held old new file (Map f) = ⊥
+FileCause held old new file TestsMissing = ⊥
+FileCause held old new file TestsTooLong = ⊥
+FileCause held old new file TestsFailed = ⊥
+FileCause held old new file (Tests line) = ⊥
 FileCause held old new file OutputFailed = ⊥
 
 -- the program is accepted, and the map text has the fault
 abbrev pub MapRefusedCause : (bytes entry : List ℕ) → Work → MapFault → Type 0
 MapRefusedCause bytes entry (list b runs budget after) f = ⊥
 MapRefusedCause bytes entry (trace b map) f = MapIsRefused bytes entry b map f
+MapRefusedCause bytes entry (replay tests) f = ⊥
 
 -- the cause of a refusal of the bytes
 abbrev pub SourceCause : (bytes entry : List ℕ) → Work → Refusal → Type 0
@@ -47,6 +50,10 @@ SourceCause bytes entry work (BadWord n) = ⊥
 SourceCause bytes entry work Missing = ⊥
 SourceCause bytes entry work TooLong = ⊥
 SourceCause bytes entry work FileFailed = ⊥
+SourceCause bytes entry work TestsMissing = ⊥
+SourceCause bytes entry work TestsTooLong = ⊥
+SourceCause bytes entry work TestsFailed = ⊥
+SourceCause bytes entry work (Tests line) = ⊥
 SourceCause bytes entry work OutputFailed = ⊥
 
 -- the cause of a refusal of the text of an input
@@ -59,6 +66,10 @@ MapCause p b text TooLong = ⊥
 MapCause p b text FileFailed = ⊥
 MapCause p b text (Source line wrong) = ⊥
 MapCause p b text NoEntry = ⊥
+MapCause p b text TestsMissing = ⊥
+MapCause p b text TestsTooLong = ⊥
+MapCause p b text TestsFailed = ⊥
+MapCause p b text (Tests line) = ⊥
 MapCause p b text OutputFailed = ⊥
 
 -- the cause of a refusal of the output
@@ -72,6 +83,26 @@ WriteCause old new FileFailed = ⊥
 WriteCause old new (Source line wrong) = ⊥
 WriteCause old new NoEntry = ⊥
 WriteCause old new (Map f) = ⊥
+WriteCause old new TestsMissing = ⊥
+WriteCause old new TestsTooLong = ⊥
+WriteCause old new TestsFailed = ⊥
+WriteCause old new (Tests line) = ⊥
+
+-- the cause of a refusal of the tests file of a program
+abbrev pub TestsCause : Program → Option Held → (faults_old faults_new : ℕ) → List ℕ → Refusal → Type 0
+TestsCause p held old new tests TestsMissing = IsMissing held tests
+TestsCause p held old new tests TestsTooLong = IsTooLong tests_limit held tests
+TestsCause p held old new tests TestsFailed = Rose old new
+TestsCause p held old new tests (Tests line) = (file : List ℕ) × ReadTests held tests file × IsRefusedAt p file line
+TestsCause p held old new tests NoMemory = Unit {0}
+TestsCause p held old new tests (BadWord n) = ⊥
+TestsCause p held old new tests Missing = ⊥
+TestsCause p held old new tests TooLong = ⊥
+TestsCause p held old new tests FileFailed = ⊥
+TestsCause p held old new tests (Source line wrong) = ⊥
+TestsCause p held old new tests NoEntry = ⊥
+TestsCause p held old new tests (Map f) = ⊥
+TestsCause p held old new tests OutputFailed = ⊥
 
 -- what a session sees of the outside before and after: the files held, their faults, what is written, and its faults
 pub record Seen : Type 0 where
@@ -88,7 +119,7 @@ pub record Wrote (held : Option Held) (out_old out_new : Option (List ℕ)) (tas
   pub bytes : List ℕ
   pub text : List ℕ
   pub read : ReadAs held task.file bytes
-  pub report : IsReport bytes task.entry task.work text status
+  pub report : IsReport held bytes task.entry task.work text status
   pub written : out_new ≡ appended out_old text
 
 -- a first part of a text that may stand was written
@@ -96,7 +127,7 @@ pub record WroteFirst (held : Option Held) (out_old out_new : Option (List ℕ))
   pub bytes : List ℕ
   pub text : List ℕ
   pub read : ReadAs held task.file bytes
-  pub may : MayStand bytes task.entry task.work text
+  pub may : MayStand held bytes task.entry task.work text
   pub written : WritesPart out_old out_new text
 
 -- nothing was written, or a first part of such a text
@@ -116,6 +147,17 @@ module _ (seen : Seen) (task : Task) where
     pub cause : SourceCause bytes task.entry task.work e
     pub silent : seen.out_new ≡ seen.out_old
 
+  -- the tests file of a program was refused, and nothing was written
+  pub record TestsRefused (e : Refusal) : Type 0 where
+    pub tests : List ℕ
+    pub named : task.work ≡ replay tests
+    pub bytes : List ℕ
+    pub read : ReadAs seen.held task.file bytes
+    pub program : Program
+    pub source : IsProgram bytes task.entry program
+    pub cause : TestsCause program seen.held seen.files_old seen.files_new tests e
+    pub silent : seen.out_new ≡ seen.out_old
+
   -- the cause of a refusal
   abbrev pub Cause : Refusal → Type 0
   Cause (BadWord n) = ⊥
@@ -125,6 +167,10 @@ module _ (seen : Seen) (task : Task) where
   Cause (Source line wrong) = SourceRefused (Source line wrong)
   Cause NoEntry = SourceRefused NoEntry
   Cause (Map f) = SourceRefused (Map f)
+  Cause TestsMissing = TestsRefused TestsMissing
+  Cause TestsTooLong = TestsRefused TestsTooLong
+  Cause TestsFailed = TestsRefused TestsFailed
+  Cause (Tests line) = TestsRefused (Tests line)
   Cause OutputFailed = Rose seen.faults_old seen.faults_new × WroteFirst seen.held seen.out_old seen.out_new task
   Cause NoMemory = Stands seen.held seen.out_old seen.out_new task
 
@@ -168,6 +214,10 @@ module _ (n : ℕ) (out_old out_new : Option (List ℕ)) (faults_old faults_new 
   MadeCause TooLong = ⊥
   MadeCause FileFailed = ⊥
   MadeCause (Map f) = ⊥
+  MadeCause TestsMissing = ⊥
+  MadeCause TestsTooLong = ⊥
+  MadeCause TestsFailed = ⊥
+  MadeCause (Tests line) = ⊥
 
   -- `make` ends with status 0 and its line, or with a refusal and its cause
   abbrev pub MadeEnds : Result Status Refusal → Type 0

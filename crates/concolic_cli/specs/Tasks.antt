@@ -1,11 +1,13 @@
 -- What a command asks for, what is written then, and why it may be refused.
-use Rattle.std.specs.Prelude.{ℕ, ◌+◌, ◌-◌, ◌≡◌, ◌⊎◌, List, [], Option, Some, None, option_map, slice_get, if◌then◌else◌}
+use Rattle.std.specs.Prelude.{ℕ, ◌+◌, ◌-◌, ◌≡◌, ◌⊎◌, List, [], length, Option, Some, None, option_map, slice_get, if◌then◌else◌}
 use Rattle.cc_base.specs.declared.inputs.Input.{Input}
+use Rattle.cc_base.specs.declared.inputs.Test.{Test}
 use Rattle.cc_base.specs.Limits.{Limits}
 use Rattle.cc_base.specs.Paths.{Path}
-use Rattle.cc_model.specs.declared.commands.Command.TheVariants.{Run, Trace}
+use Rattle.cc_model.specs.declared.commands.Command.TheVariants.{Run, Trace, Replay}
 use Rattle.cc_model.specs.declared.commands.RunWords.{RunWords}
 use Rattle.cc_model.specs.declared.commands.TraceWords.{TraceWords}
+use Rattle.cc_model.specs.declared.commands.ReplayWords.{ReplayWords}
 use Rattle.cc_model.specs.Core.{Program}
 use Rattle.cc_model.specs.Listing.{Listing, Sound}
 use Rattle.cc_model.specs.Report.{report_text, last_line, verdict_of, is_fault}
@@ -17,7 +19,11 @@ use Rattle.input_map.specs.Maps.{IsMap}
 use Rattle.input_map.specs.CellFaults.{Refused}
 use Rattle.concolic_cli.specs.Listings.{IsListing}
 use Rattle.concolic_cli.specs.Made.{made_source, made_entry, made_bounds, made_budget}
-use Rattle.concolic_cli.specs.Refusals.{map_text_of}
+use Rattle.cc_outside.specs.Held.{Held}
+use Rattle.replay.specs.Files.{IsTestsFile, IsRefusedAt}
+use Rattle.replay.specs.ReplayText.{Written}
+use Rattle.concolic_cli.specs.Loaded.{ReadTests}
+use Rattle.concolic_cli.specs.Refusals.{map_text_of, tests_text}
 use Rattle.concolic_cli.specs.Sources.{Refuses}
 use Rattle.concolic_cli.specs.TraceText.{trace_text}
 use Rattle.command_words.specs.Words.{Accepted, IsPath}
@@ -25,10 +31,11 @@ use Rattle.command_words.specs.Words.{Accepted, IsPath}
 -- ---- tasks
 
 -- what is done with a program: its tests are listed, within bounds, by at most so many runs, with this budget for a solve, and
--- above a path where one is given; or its run on the input of a map text is told
+-- above a path where one is given; or its run on the input of a map text is told; or the tests of a file are replayed
 pub data Work : Type 0 where
   list : (b : Limits) → (runs budget : ℕ) → (after : Option Path) → Work
   trace : (b : Limits) → (map : List ℕ) → Work
+  replay : (tests : List ℕ) → Work
 
 -- the name of the source's file, the name of the tested function, and what is done
 pub record Task : Type 0 where
@@ -60,10 +67,14 @@ list_task words r after = record { file = word_of words r.file; entry = word_of 
 abbrev pub trace_task : List (List ℕ) → TraceWords → Task
 trace_task words t = record { file = word_of words t.file; entry = word_of words t.entry; work = trace t.bounds (word_of words t.map) }
 
+abbrev pub replay_task : List (List ℕ) → ReplayWords → Task
+replay_task words r = record { file = word_of words r.file; entry = word_of words r.entry; work = replay (word_of words r.tests) }
+
 -- the words ask for the task, which is one on a file
 pub data Asks (words : List (List ℕ)) : Task → Type 0 where
   asks_list : (r : RunWords) → (after : Option Path) → Accepted words (Run r) → IsAfter words r after → Asks words (list_task words r after)
   asks_trace : (t : TraceWords) → Accepted words (Trace t) → Asks words (trace_task words t)
+  asks_replay : (r : ReplayWords) → Accepted words (Replay r) → Asks words (replay_task words r)
 
 -- ---- what is written
 
@@ -88,10 +99,24 @@ pub record TracesAs (bytes entry : List ℕ) (b : Limits) (map text : List ℕ) 
   pub text_is : text ≡ trace_text program b input
   pub verdict : status ≡ (if is_fault (end_at program b input) then 1 else 0)
 
+-- the text tells of the replay of the tests that the file holds: that each is real, with status 0, or which is the first that isn't,
+-- with status 8
+pub record ReplaysAs (held : Option Held) (bytes entry tests text : List ℕ) (status : ℕ) : Type 0 where
+  pub program : Program
+  pub source : IsProgram bytes entry program
+  pub file : List ℕ
+  pub read : ReadTests held tests file
+  pub bounds : Limits
+  pub all : List Test
+  pub lines : List ℕ
+  pub holds : IsTestsFile program file bounds all lines
+  pub written : Written program bounds (length all) all lines text status
+
 -- the text is what is written for the program that the bytes are, with this status
-abbrev pub IsReport : (bytes entry : List ℕ) → Work → (text : List ℕ) → (status : ℕ) → Type 0
-IsReport bytes entry (list b runs budget after) text status = ListsAs bytes entry b runs budget after text status
-IsReport bytes entry (trace b map) text status = TracesAs bytes entry b map text status
+abbrev pub IsReport : Option Held → (bytes entry : List ℕ) → Work → (text : List ℕ) → (status : ℕ) → Type 0
+IsReport held bytes entry (list b runs budget after) text status = ListsAs bytes entry b runs budget after text status
+IsReport held bytes entry (trace b map) text status = TracesAs bytes entry b map text status
+IsReport held bytes entry (replay tests) text status = ReplaysAs held bytes entry tests text status
 
 -- ---- what stands of it where the work was cut off
 
@@ -105,9 +130,10 @@ pub record ListsSome (bytes entry : List ℕ) (b : Limits) (after : Option Path)
   pub text_is : text ≡ report_text listing
 
 -- a text of which a first part may stand
-abbrev pub MayStand : (bytes entry : List ℕ) → Work → (text : List ℕ) → Type 0
-MayStand bytes entry (list b runs budget after) text = ListsSome bytes entry b after text
-MayStand bytes entry (trace b map) text = (status : ℕ) × TracesAs bytes entry b map text status
+abbrev pub MayStand : Option Held → (bytes entry : List ℕ) → Work → (text : List ℕ) → Type 0
+MayStand held bytes entry (list b runs budget after) text = ListsSome bytes entry b after text
+MayStand held bytes entry (trace b map) text = (status : ℕ) × TracesAs bytes entry b map text status
+MayStand held bytes entry (replay tests) text = (status : ℕ) × ReplaysAs held bytes entry tests text status
 
 -- ---- what `make` writes
 
@@ -128,11 +154,20 @@ pub record MapIsRefused (bytes entry : List ℕ) (b : Limits) (map : List ℕ) (
   pub refused : Refused program b map f
   pub none : (h : Input) → IsMap map h → IsInput program b h → ⊥
 
+-- the line is the first one with a fault of the tests file
+pub record TestsAreRefused (held : Option Held) (bytes entry tests : List ℕ) (line : ℕ) : Type 0 where
+  pub program : Program
+  pub source : IsProgram bytes entry program
+  pub file : List ℕ
+  pub read : ReadTests held tests file
+  pub refused : IsRefusedAt program file line
+
 -- an accepted program is refused for the work, with this text
-abbrev pub RefusesWork : (bytes entry : List ℕ) → Work → (text : List ℕ) → Type 0
-RefusesWork bytes entry (list b runs budget after) text = ⊥
-RefusesWork bytes entry (trace b map) text = (f : MapFault) × MapIsRefused bytes entry b map f × (text ≡ map_text_of f)
+abbrev pub RefusesWork : Option Held → (bytes entry : List ℕ) → Work → (text : List ℕ) → Type 0
+RefusesWork held bytes entry (list b runs budget after) text = ⊥
+RefusesWork held bytes entry (trace b map) text = (f : MapFault) × MapIsRefused bytes entry b map f × (text ≡ map_text_of f)
+RefusesWork held bytes entry (replay tests) text = (line : ℕ) × TestsAreRefused held bytes entry tests line × (text ≡ tests_text line)
 
 -- the bytes are refused for a task, with this text
-abbrev pub RefusesTask : (bytes entry : List ℕ) → Work → (text : List ℕ) → Type 0
-RefusesTask bytes entry work text = Refuses bytes entry text ⊎ RefusesWork bytes entry work text
+abbrev pub RefusesTask : Option Held → (bytes entry : List ℕ) → Work → (text : List ℕ) → Type 0
+RefusesTask held bytes entry work text = Refuses bytes entry text ⊎ RefusesWork held bytes entry work text

@@ -2,9 +2,10 @@
 
 ghost use Rattle.std.specs.Prelude.{◌≡◌, ◌++◌, ◌^◌, ◌<◌, ◌≤◌, IfOk, codes, true};
 ghost use Rattle.cc_outside.specs.Faults.{Rose};
-ghost use Rattle.concolic_cli.specs.Refusals.{bad_word_text, file_text, map_text_of, map_what, what_text, refusal_line, Says, IsAnswered, wants_memory, status_of};
+ghost use Rattle.concolic_cli.specs.Refusals.{bad_word_text, file_text, tests_text, map_text_of, map_what, what_text, refusal_line, Says, IsAnswered, wants_memory, status_of};
 ghost use Rattle.cc_model.specs.Report.{newline};
 ghost use Rattle.concolic_cli.specs.Sources.{source_text, no_entry_text};
+ghost use Rattle.concolic_cli.specs.Named.{names_in};
 
 use crate::refusal::{Refusal, Wrong};
 use arrayvec::ArrayString;
@@ -82,6 +83,17 @@ fn no_entry_line(alloc: Global, entry: &str) -> Result<Vec<u8>, NoMemory>
     Ok(text)
 }
 
+/// `tests LINE: malformed`
+fn tests_line(alloc: Global, line: u32) -> Result<Vec<u8>, NoMemory>
+    ensures { IfOk result (λ text. text.items ≡ tests_text line ++ newline) }
+{
+    let mut number = Buffer::new();
+    let mut text = Vec::from_slice(alloc, b"tests ")?;
+    text.extend_from_slice(number.format(line).as_bytes())?;
+    text.extend_from_slice(b": malformed\n")?;
+    Ok(text)
+}
+
 /// `map: WHAT`, with a number behind it.
 fn numbered_line(alloc: Global, what: &str, number: &str) -> Result<Vec<u8>, NoMemory>
     ensures { IfOk result (λ text. text.items ≡ codes "map: " ++ (what.now ++ number.now) ++ newline) }
@@ -122,18 +134,30 @@ fn say<E: Sink>(err: &mut E, line: &[u8])
     let _ = err.write(line);
 }
 
+/// The words that a text may name: FILE, ENTRY and TESTS.
+#[derive(Clone, Copy)]
+pub struct Named<'a> {
+    pub file: &'a str,
+    pub entry: &'a str,
+    pub tests: &'a str,
+}
+
 /// The line of a refusal that is not a bad word, with a newline.
-fn line_of(alloc: Global, refusal: Refusal, file: &str, entry: &str) -> Result<Vec<u8>, NoMemory>
+fn line_of(alloc: Global, refusal: Refusal, named: Named<'_>) -> Result<Vec<u8>, NoMemory>
     requires { wants_memory refusal ≡ true }
-    ensures { IfOk result (λ line. line.items ≡ refusal_line file.now entry.now refusal) }
+    ensures { IfOk result (λ line. line.items ≡ refusal_line (names_in named) refusal) }
 {
     match refusal {
-        Refusal::Missing => file_line(alloc, file, "missing"),
-        Refusal::TooLong => file_line(alloc, file, "too long"),
-        Refusal::FileFailed => file_line(alloc, file, "failed"),
+        Refusal::Missing => file_line(alloc, named.file, "missing"),
+        Refusal::TooLong => file_line(alloc, named.file, "too long"),
+        Refusal::FileFailed => file_line(alloc, named.file, "failed"),
         Refusal::Source(line, wrong) => source_line(alloc, line, wrong),
-        Refusal::NoEntry => no_entry_line(alloc, entry),
+        Refusal::NoEntry => no_entry_line(alloc, named.entry),
         Refusal::Map(fault) => map_line(alloc, fault),
+        Refusal::TestsMissing => file_line(alloc, named.tests, "missing"),
+        Refusal::TestsTooLong => file_line(alloc, named.tests, "too long"),
+        Refusal::TestsFailed => file_line(alloc, named.tests, "failed"),
+        Refusal::Tests(line) => tests_line(alloc, line),
         Refusal::BadWord(_) | Refusal::OutputFailed | Refusal::NoMemory => { unreachable!() }
     }
 }
@@ -143,15 +167,14 @@ fn refuse_by_line<E: Sink>(
     alloc: Global,
     refusal: Refusal,
     status: u8,
-    file: &str,
-    entry: &str,
+    named: Named<'_>,
     err: &mut E,
 ) -> Status
     requires memory { wants_memory refusal ≡ true }
     requires status { status ≡ status_of refusal }
-    ensures { IsAnswered (E.written err.old) (E.written err.new) (E.faults err.old) (E.faults err.new) file.now entry.now refusal result.0 }
+    ensures { IsAnswered (E.written err.old) (E.written err.new) (E.faults err.old) (E.faults err.new) (names_in named) refusal result.0 }
 {
-    match line_of(alloc, refusal, file, entry) {
+    match line_of(alloc, refusal, named) {
         Ok(line) => {
             say(err, &line);
             Status(status)
@@ -167,11 +190,10 @@ fn refuse_by_line<E: Sink>(
 pub fn refuse<E: Sink>(
     alloc: Global,
     refusal: Refusal,
-    file: &str,
-    entry: &str,
+    named: Named<'_>,
     err: &mut E,
 ) -> Status
-    ensures { IsAnswered (E.written err.old) (E.written err.new) (E.faults err.old) (E.faults err.new) file.now entry.now refusal result.0 }
+    ensures { IsAnswered (E.written err.old) (E.written err.new) (E.faults err.old) (E.faults err.new) (names_in named) refusal result.0 }
 {
     match refusal {
         Refusal::BadWord(word) => {
@@ -186,11 +208,14 @@ pub fn refuse<E: Sink>(
             say(err, b"no memory\n");
             Status(7)
         }
-        Refusal::Missing | Refusal::TooLong | Refusal::FileFailed => {
-            refuse_by_line(alloc, refusal, 4, file, entry, err)
-        }
-        Refusal::Source(_, _) | Refusal::NoEntry | Refusal::Map(_) => {
-            refuse_by_line(alloc, refusal, 3, file, entry, err)
+        Refusal::Missing
+        | Refusal::TooLong
+        | Refusal::FileFailed
+        | Refusal::TestsMissing
+        | Refusal::TestsTooLong
+        | Refusal::TestsFailed => refuse_by_line(alloc, refusal, 4, named, err),
+        Refusal::Source(_, _) | Refusal::NoEntry | Refusal::Map(_) | Refusal::Tests(_) => {
+            refuse_by_line(alloc, refusal, 3, named, err)
         }
     }
 }

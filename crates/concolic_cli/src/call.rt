@@ -5,7 +5,7 @@ ghost use Rattle.cc_base.specs.declared.inputs.Input.{Input};
 ghost use Rattle.cc_base.specs.Paths.{Path, In};
 ghost use Rattle.cc_model.specs.declared.commands.RunWords.{RunWords};
 ghost use Rattle.cc_model.specs.declared.commands.TraceWords.{TraceWords};
-ghost use Rattle.cc_model.specs.declared.commands.Command.TheVariants.{Run, Trace, Make};
+ghost use Rattle.cc_model.specs.declared.commands.Command.TheVariants.{Run, Trace, Replay, Make};
 ghost use Rattle.cc_model.specs.Core.{Program};
 ghost use Rattle.cc_model.specs.Report.{newline};
 ghost use Rattle.cc_model.specs.Runs.{IsInput};
@@ -18,18 +18,19 @@ ghost use Rattle.input_map.specs.declared.faults.MapFault.{MapFault};
 ghost use Rattle.concolic_cli.specs.Concolic.{HasNoCommand, IsSource, IsSourceOf, Headline, NothingMissedBut, PartStands, SourceIsRefused, MadeIsRefused, FileIsRefused, IsRefusal, Answered};
 ghost use Rattle.concolic_cli.specs.Listings.{IsEasy, HoldsPaths, room};
 ghost use Rattle.concolic_cli.specs.Made.{made_source, made_entry};
+ghost use Rattle.concolic_cli.specs.Named.{names_in};
 ghost use Rattle.concolic_cli.specs.Refusals.{bad_word_text, Says};
 ghost use Rattle.concolic_cli.specs.Session.{Wrote, WroteLast};
 ghost use Rattle.concolic_cli.specs.Sources.{Refuses};
 ghost use Rattle.concolic_cli.specs.Tasks.{Task, Asks, IsAfter, word_of, list_task, trace_task};
 ghost use Rattle.command_words.specs.Words.{texts, Accepted, BadWord};
 
-use crate::answers::{Status, refuse};
+use crate::answers::{Named, Status, refuse};
 use crate::making::write_made;
 use crate::refusal::Refusal;
-use crate::session::{list_tests, tell_run};
+use crate::session::{list_tests, replay_file, tell_run};
 use c_parse::one_program;
-use cc_model::{Command, RunWords, TraceWords};
+use cc_model::{Command, ReplayWords, RunWords, TraceWords};
 use cc_outside::{Files, Sink};
 use command_words::{one_command, read_words};
 use std::alloc::Global;
@@ -51,6 +52,17 @@ fn word_if(words: &[String], number: Option<u32>) -> Option<&str>
     match number {
         Some(number) => Some(word(words, number)),
         None => None,
+    }
+}
+
+/// The words that a text may name, where there is no tests file.
+fn named<'a>(file: &'a str, entry: &'a str) -> Named<'a>
+    ensures { names_in result ≡ record { file = file.now; entry = entry.now; tests = [] } }
+{
+    Named {
+        file,
+        entry,
+        tests: "",
     }
 }
 
@@ -89,7 +101,7 @@ fn answer_run<F: Files, K: Sink, E: Sink>(
     let after = word_if(words, run.after);
     match list_tests(alloc, run, after, file, entry, files, out) {
         Ok(status) => status,
-        Err(refusal) => refuse(alloc, refusal, file, entry, err),
+        Err(refusal) => refuse(alloc, refusal, named(file, entry), err),
     }
 }
 
@@ -126,7 +138,44 @@ fn answer_trace<F: Files, K: Sink, E: Sink>(
     let map = word(words, trace.map);
     match tell_run(alloc, &trace.bounds, map, file, entry, files, out) {
         Ok(status) => status,
-        Err(refusal) => refuse(alloc, refusal, file, entry, err),
+        Err(refusal) => refuse(alloc, refusal, named(file, entry), err),
+    }
+}
+
+/// Answers a call whose words are `replay` and what follows.
+fn answer_replay<F: Files, K: Sink, E: Sink>(
+    alloc: Global,
+    words: &[String],
+    replay: &ReplayWords,
+    files: &mut F,
+    out: &mut K,
+    err: &mut E,
+) -> Status
+    requires { Accepted (texts words.now) (Replay replay.now) }
+    ensures answered { Answered (record {
+      words = texts words.now;
+      seen = record {
+        held = F.held files.old;
+        files_old = F.faults files.old;
+        files_new = F.faults files.new;
+        out_old = K.written out.old;
+        out_new = K.written out.new;
+        faults_old = K.faults out.old;
+        faults_new = K.faults out.new;
+      };
+      err_old = E.written err.old;
+      err_new = E.written err.new;
+      err_faults_old = E.faults err.old;
+      err_faults_new = E.faults err.new;
+    }) result.0 }
+    ensures held { F.held files.new ≡ F.held files.old }
+{
+    let file = word(words, replay.file);
+    let entry = word(words, replay.entry);
+    let tests = word(words, replay.tests);
+    match replay_file(alloc, tests, file, entry, files, out) {
+        Ok(status) => status,
+        Err(refusal) => refuse(alloc, refusal, Named { file, entry, tests }, err),
     }
 }
 
@@ -162,7 +211,7 @@ fn answer_make<F: Files, K: Sink, E: Sink>(
 {
     match write_made(alloc, branches, out) {
         Ok(status) => status,
-        Err(refusal) => refuse(alloc, refusal, "", "f", err),
+        Err(refusal) => refuse(alloc, refusal, named("", "f"), err),
     }
 }
 
@@ -196,8 +245,8 @@ fn answer<F: Files, K: Sink, E: Sink>(
         Ok(Command::Run(run)) => answer_run(alloc, words, &run, files, out, err),
         Ok(Command::Trace(trace)) => answer_trace(alloc, words, &trace, files, out, err),
         Ok(Command::Make(branches)) => answer_make(alloc, words, branches, files, out, err),
-        Ok(Command::Replay(_)) => unreachable!(),
-        Err(bad) => refuse(alloc, Refusal::BadWord(bad), "", "", err),
+        Ok(Command::Replay(replay)) => answer_replay(alloc, words, &replay, files, out, err),
+        Err(bad) => refuse(alloc, Refusal::BadWord(bad), named("", ""), err),
     }
 }
 

@@ -12,6 +12,7 @@ mod map_words;
 mod prepared;
 mod program;
 mod refusal;
+mod replaying;
 mod report;
 mod searching;
 mod session;

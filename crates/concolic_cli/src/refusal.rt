@@ -51,6 +51,14 @@ pub enum Refusal {
     NoEntry,
     /// Why the word MAP is the map text of no input within the bounds; never want of memory.
     Map(MapFault),
+    /// There is no tests file of that name.
+    TestsMissing,
+    /// The tests file has more than 16,777,216 bytes.
+    TestsTooLong,
+    /// The tests file could not be read.
+    TestsFailed,
+    /// The first line of the tests file, from 1, that is none of such a file.
+    Tests(u32),
     /// The output could not be written.
     OutputFailed,
     /// Want of memory.

@@ -2,13 +2,16 @@
 
 ghost use Rattle.std.specs.Prelude.{◌≡◌, ◌^◌, ◌<◌, ◌≤◌, IfOk, IfErr, Option, option_map, length};
 ghost use Rattle.cc_base.specs.Paths.{Path};
-ghost use Rattle.concolic_cli.specs.Session.{ReadAs, FileCause, Ends};
-ghost use Rattle.concolic_cli.specs.Tasks.{IsPathOf, list, trace};
+ghost use Rattle.cc_model.specs.Core.{Program};
+ghost use Rattle.concolic_cli.specs.Loaded.{ReadAs, ReadTests};
+ghost use Rattle.concolic_cli.specs.Session.{FileCause, TestsCause, Ends};
+ghost use Rattle.concolic_cli.specs.Tasks.{IsPathOf, list, trace, replay};
 
 use crate::after::path_if;
 use crate::answers::Status;
 use crate::prepared::{compile, prepare_trace};
 use crate::refusal::Refusal;
+use crate::replaying::{tests_in, write_replay};
 use crate::searching::write_listing;
 use crate::tracing::write_trace;
 use cc_model::RunWords;
@@ -30,6 +33,25 @@ fn read_source<F: Files>(alloc: Global, files: &mut F, file: &str) -> Result<Vec
         Err(LoadFault::Missing) => Err(Refusal::Missing),
         Err(LoadFault::TooLong) => Err(Refusal::TooLong),
         Err(LoadFault::Failed) => Err(Refusal::FileFailed),
+        Err(LoadFault::NoMemory) => Err(Refusal::NoMemory),
+    }
+}
+
+/// How many bytes a tests file may have.
+const TESTS_LIMIT: usize = 16_777_216;
+
+/// Reads a tests file.
+fn load_tests<F: Files>(alloc: Global, files: &mut F, tests: &str) -> Result<Vec<u8>, Refusal>
+    ensures read { IfOk result (λ v. ReadTests (F.held files.old) tests.now v.items) }
+    ensures refused { IfErr result (λ e. (p : Program) → TestsCause p (F.held files.old) (F.faults files.old) (F.faults files.new) tests.now e) }
+    ensures held { F.held files.new ≡ F.held files.old }
+    ensures never_falls { F.faults files.old ≤ F.faults files.new }
+{
+    match files.load(alloc, tests, TESTS_LIMIT) {
+        Ok(bytes) => Ok(bytes),
+        Err(LoadFault::Missing) => Err(Refusal::TestsMissing),
+        Err(LoadFault::TooLong) => Err(Refusal::TestsTooLong),
+        Err(LoadFault::Failed) => Err(Refusal::TestsFailed),
         Err(LoadFault::NoMemory) => Err(Refusal::NoMemory),
     }
 }
@@ -109,4 +131,44 @@ pub fn tell_run<F: Files, K: Sink>(
         Err(refusal) => return Err(refusal),
     };
     Ok(status)
+}
+
+/// Replays the tests of a file on the function `entry` of the source in `file`, and writes whether all are real, or which is the
+/// first that isn't.
+pub fn replay_file<F: Files, K: Sink>(
+    alloc: Global,
+    tests: &str,
+    file: &str,
+    entry: &str,
+    files: &mut F,
+    out: &mut K,
+) -> Result<Status, Refusal>
+    ensures ends { Ends (record {
+      held = F.held files.old;
+      files_old = F.faults files.old;
+      files_new = F.faults files.new;
+      out_old = K.written out.old;
+      out_new = K.written out.new;
+      faults_old = K.faults out.old;
+      faults_new = K.faults out.new;
+    }) (record { file = file.now; entry = entry.now; work = replay tests.now }) result }
+    ensures held { F.held files.new ≡ F.held files.old }
+{
+    let source = read_source(alloc, files, file)?;
+    let compiled = match compile(alloc, &source, entry) {
+        Ok(compiled) => compiled,
+        Err(refusal) => return Err(refusal),
+    };
+    let text = match load_tests(alloc, files, tests) {
+        Ok(text) => text,
+        Err(refusal) => return Err(refusal),
+    };
+    let held = match tests_in(alloc, &text, &compiled.checked) {
+        Ok(held) => held,
+        Err(refusal) => return Err(refusal),
+    };
+    match write_replay(alloc, &compiled, &held, out) {
+        Ok(status) => Ok(status),
+        Err(refusal) => Err(refusal),
+    }
 }
