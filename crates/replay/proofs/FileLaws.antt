@@ -3,8 +3,8 @@ use Rattle.std.proofs.Common.{◌≡◌, ◌∙◌, sym, ap, ap₂, refl, subst,
 use Rattle.cc_base.specs.declared.inputs.Test.{Test}
 use Rattle.cc_base.specs.Limits.{Limits}
 use Rattle.cc_model.specs.Core.{Program}
-use Rattle.report_words.specs.Cuts.{CutFirst}
-use Rattle.report_words.proofs.Cutting.{first_once}
+use Rattle.report_words.specs.Cuts.{Lacks, CutFirst}
+use Rattle.report_words.proofs.Cutting.{first_once, no_first}
 use Rattle.replay.specs.declared.line.Line.{Line as Kind}
 use Rattle.replay.specs.declared.line.Line.TheVariants as of
 use Rattle.replay.specs.Files.{AreLines, no_line, test_line, other_line, IsBadAt, this_line, line_behind, tests_in, lines_in, IsFaulty}
@@ -39,18 +39,18 @@ module _ (p : Program) (b : Limits) where
   firstly n text ts ns e (other_line _ _ line rest _ _ c i l) =
       record { line = line; rest = rest; kind = of.Other; cut = c; is = i; later_tests = ts; later_lines = ns; later = l; tests = refl; lines = refl }
 
+  no_bad : (line : List ℕ) (k : Kind) → k ≡ of.Bad → IsLine p b line k → ⊥
+  no_bad line _ e (test t w g) = cc e
+  no_bad line _ e (past t w g) = cc e
+  no_bad line _ e (stray t q w g h) = cc e
+  no_bad line _ e (unrun i q w g h) = cc e
+  no_bad line _ e (other w) = cc e
+
   pub one_more : (n : ℕ) (text line rest : List ℕ) (kind : Kind) → CutFirst 10 text line rest → IsLine p b line kind → (ts : List Test) (ns : List ℕ) →
       AreLines p b (suc n) rest ts ns → AreLines p b n text (tests_in kind ++ ts) (lines_in n kind ++ ns)
   one_more n text line rest (of.Test t) c i ts ns l = test_line n text line rest t ts ns c i l
   one_more n text line rest of.Other c i ts ns l = other_line n text line rest ts ns c i l
   one_more n text line rest of.Bad c i ts ns l = absurd (no_bad line of.Bad refl i)
-    where
-      no_bad : (line : List ℕ) (k : Kind) → k ≡ of.Bad → IsLine p b line k → ⊥
-      no_bad line _ e (test t w g) = cc e
-      no_bad line _ e (past t w g) = cc e
-      no_bad line _ e (stray t q w g h) = cc e
-      no_bad line _ e (unrun i q w g h) = cc e
-      no_bad line _ e (other w) = cc e
 
   -- the lines before the rest are passed, with these tests
   pub record UpTo (start : List ℕ) (n : ℕ) (rest : List ℕ) (tests : List Test) (lines : List ℕ) : Type 0 where
@@ -140,3 +140,12 @@ module _ (p : Program) (b : Limits) where
 
   pub stops_there : (start rest : List ℕ) (n m : ℕ) (tests : List Test) (lines : List ℕ) → IsFaulty p b rest → UpTo start n rest tests lines → IsBadAt p b 2 start m → n ≡ m
   stops_there start rest n m tests lines faulty u h = same_line n m rest faulty (u.bad_back m h)
+
+  -- a line that is none
+  pub faulty_cut : (rest : List ℕ) → Lacks 10 rest → IsFaulty p b rest
+  faulty_cut rest l = λ line more k c i. no_first 10 rest line more l c
+
+  pub faulty_bad : (rest line behind : List ℕ) (kind : Kind) → CutFirst 10 rest line behind → kind ≡ of.Bad → ((l : Kind) → IsLine p b line l → kind ≡ l) → IsFaulty p b rest
+  faulty_bad rest line behind kind c e only = λ that more l d i.
+      let r = first_once 10 rest line behind that more c d in
+      no_bad that l (sym (only l (subst (λ t. IsLine p b t l) (sym r.0) i)) ∙ e) i
