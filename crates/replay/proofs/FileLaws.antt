@@ -1,5 +1,5 @@
 -- The lines of a tests file, one after the other.
-use Rattle.std.proofs.Common.{◌≡◌, ◌∙◌, sym, ap, ap₂, refl, subst, ℕ, suc, ◌+◌, ◌<◌, ◌≤◌, ◌⊎◌, inl, inr, List, [], ◌∷◌, ◌++◌, length, arith, append_assoc}
+use Rattle.std.proofs.Common.{◌≡◌, ◌∙◌, sym, ap, refl, subst, ℕ, suc, List, [], ◌∷◌, ◌++◌, append_assoc}
 use Rattle.cc_base.specs.declared.inputs.Test.{Test}
 use Rattle.cc_base.specs.Limits.{Limits}
 use Rattle.cc_model.specs.Core.{Program}
@@ -77,9 +77,13 @@ module _ (p : Program) (b : Limits) where
   back_one n text line rest kind c only us ms h =
       let f = firstly n text us ms (not_empty text line rest c) h in
       let r = first_once 10 text f.line f.rest line rest f.cut c in
-      let k : kind ≡ f.kind = only f.kind (subst (λ t. IsLine p b t f.kind) r.0 f.is) in
-      (f.later_tests, f.later_lines, subst (λ t. AreLines p b (suc n) t f.later_tests f.later_lines) r.1 f.later,
-          f.tests ∙ ap (λ x. tests_in x ++ f.later_tests) (sym k), f.lines ∙ ap (λ x. lines_in n x ++ f.later_lines) (sym k))
+      let k : kind ≡ f.kind = only f.kind (subst (λ t. IsLine p b t f.kind) r.0 f.is) in (
+        f.later_tests,
+        f.later_lines,
+        subst (λ t. AreLines p b (suc n) t f.later_tests f.later_lines) r.1 f.later,
+        f.tests ∙ ap (λ x. tests_in x ++ f.later_tests) (sym k),
+        f.lines ∙ ap (λ x. lines_in n x ++ f.later_lines) (sym k),
+      )
 
   pub passed : (start : List ℕ) (n next : ℕ) (text line rest : List ℕ) (kind : Kind) (old new : List Test) (old_lines new_lines : List ℕ) →
       CutFirst 10 text line rest → IsLine p b line kind → ((l : Kind) → IsLine p b line l → kind ≡ l) → new ≡ old ++ tests_in kind → new_lines ≡ old_lines ++ lines_in n kind →
@@ -92,10 +96,13 @@ module _ (p : Program) (b : Limits) where
         subst (λ x. AreLines p b 2 start x (new_lines ++ ns)) (sym a) (subst (λ y. AreLines p b 2 start (old ++ (tests_in kind ++ ts)) y) (sym d) l);
     back = λ ts ns h.
         let w = u.back ts ns h in
-        let o = back_one n text line rest kind c only w.0 w.1 w.2 in
-        (o.0, o.1, subst (λ x. AreLines p b x rest o.0 o.1) (sym g) o.2,
-            w.3 ∙ ap (λ x. old ++ x) o.3 ∙ sym (append_assoc old (tests_in kind) o.0) ∙ ap (λ x. x ++ o.0) (sym e),
-            w.4 ∙ ap (λ x. old_lines ++ x) o.4 ∙ sym (append_assoc old_lines (lines_in n kind) o.1) ∙ ap (λ x. x ++ o.1) (sym f));
+        let o = back_one n text line rest kind c only w.0 w.1 w.2 in (
+          o.0,
+          o.1,
+          subst (λ x. AreLines p b x rest o.0 o.1) (sym g) o.2,
+          w.3 ∙ ap (λ x. old ++ x) o.3 ∙ sym (append_assoc old (tests_in kind) o.0) ∙ ap (λ x. x ++ o.0) (sym e),
+          w.4 ∙ ap (λ x. old_lines ++ x) o.4 ∙ sym (append_assoc old_lines (lines_in n kind) o.1) ∙ ap (λ x. x ++ o.1) (sym f),
+        );
     bad = λ m h. u.bad m (line_behind n m text line rest kind c i (subst (λ x. IsBadAt p b x rest m) g h));
     bad_back = λ m h. subst (λ x. IsBadAt p b x rest m) (sym g) (bad_later n m text line rest kind c i (u.bad_back m h));
   }

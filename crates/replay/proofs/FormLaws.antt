@@ -1,5 +1,5 @@
 -- The report lines that hold no input.
-use Rattle.std.proofs.Common.{◌≡◌, ◌∙◌, sym, ap, refl, subst, ℕ, ◌⊎◌, inl, inr, Bool, true, false, List, [], ◌∷◌, ◌++◌, codes, ◌↔◌, length, Result, Ok, Err, IfOk, IsTrue, map, drop, get_or, ◌+◌, ◌<◌}
+use Rattle.std.proofs.Common.{◌≡◌, ◌∙◌, sym, refl, subst, ℕ, inl, inr, Bool, true, false, List, [], ◌∷◌, codes, ◌↔◌, length, Result, Ok, Err, IfOk, IsTrue, map, drop, get_or, ◌+◌, ◌<◌}
 use Rattle.std.proofs.lemmas.Slice.Eq.{bytes_eq-Decides}
 use Rattle.std.specs.Prelude.{bytes_eq}
 use Rattle.std.proofs.lemmas.List.{at_drop_more}

@@ -1,5 +1,5 @@
 -- What a line is, by its first word.
-use Rattle.std.proofs.Common.{◌≡◌, ◌∙◌, sym, ap, ap₂, refl, subst, ℕ, List, [], ◌∷◌, ◌++◌, codes, All, Result, Ok, Err, IfOk}
+use Rattle.std.proofs.Common.{◌≡◌, ◌∙◌, sym, ap, ap₂, refl, subst, ℕ, List, ◌∷◌, ◌++◌, codes, Result, Ok, Err, IfOk}
 use Rattle.cc_base.specs.declared.inputs.Input.{Input}
 use Rattle.cc_base.specs.declared.inputs.Test.{Test}
 use Rattle.cc_base.specs.Inputs.{map_text, test_text}
@@ -13,8 +13,8 @@ use Rattle.replay.specs.declared.line.Line.{Line}
 use Rattle.replay.specs.declared.line.Line.TheVariants as of
 use Rattle.replay.specs.Forms.{IsOther}
 use Rattle.replay.specs.Lines.{IsLine, test, past, stray, unrun, other}
-use Rattle.replay.specs.Reading.{Tells, IsBefore, IsStray, IsInputText, IsUnrun}
-use Rattle.replay.specs.TestTexts.{IsTestText, IsGood, IsShortInput}
+use Rattle.replay.specs.Reading.{Tells, IsStray, IsUnrun}
+use Rattle.replay.specs.TestTexts.{IsTestText}
 use Rattle.replay.proofs.FormLaws.{apart, IsNoFirst, not_other, no_test, no_past, no_stray, no_unrun, other_has_blank}
 use Rattle.replay.proofs.Shapes.{cancel}
 

@@ -1,5 +1,5 @@
 -- A test and its text.
-use Rattle.std.proofs.Common.{◌≡◌, ◌∙◌, sym, ap, refl, subst, ℕ, ◌⊎◌, inl, inr, List, [], ◌∷◌, ◌++◌, codes, Result, Ok, Err}
+use Rattle.std.proofs.Common.{◌≡◌, ◌∙◌, sym, ap, subst, ℕ, inl, inr, List, ◌++◌, codes, Ok, Err}
 use Rattle.cc_base.specs.declared.ends.End.{End}
 use Rattle.cc_base.specs.declared.inputs.Input.{Input}
 use Rattle.cc_base.specs.declared.inputs.Test.{Test}
@@ -15,8 +15,7 @@ use Rattle.input_map.specs.CellFaults.{Refused, Answers}
 use Rattle.input_map.specs.CellFaults as maps
 use Rattle.input_map.specs.Maps.{IsMap}
 use Rattle.replay.specs.declared.faults.TestFault.{TestFault}
-use Rattle.replay.specs.declared.faults.TestFault.TheVariants as fault
-use Rattle.replay.specs.TestTexts.{ThreeWords, IsTestText, IsShortInput, IsGood, TestRefused, WordsRefused, FaultOf, IsOrNoMemory}
+use Rattle.replay.specs.TestTexts.{ThreeWords, IsTestText, TestRefused, WordsRefused, FaultOf, IsOrNoMemory}
 use Rattle.replay.proofs.MapLacks.{lacks_map}
 
 pub words_of : (p : Program) (b : Limits) (text : List ℕ) (t : Test) → IsTestText p b text t → ThreeWords text t.path t.end (map_text t.input)

@@ -1,5 +1,5 @@
 -- A tests file, from its first line to its end.
-use Rattle.std.proofs.Common.{◌≡◌, ◌∙◌, sym, ap, refl, subst, ℕ, suc, ◌⊎◌, inl, inr, List, [], ◌∷◌, Some, None, Bool, true, false, length, arith, eqb-true, eq-eqb}
+use Rattle.std.proofs.Common.{◌≡◌, ◌∙◌, sym, ap, refl, subst, ℕ, suc, ◌⊎◌, inl, inr, List, [], ◌∷◌, Some, Bool, true, false, length, arith, eqb-true, eq-eqb}
 use Rattle.std.specs.Prelude.{◌==◌}
 use Rattle.cc_base.specs.declared.inputs.Test.{Test}
 use Rattle.cc_base.specs.Limits.{Limits}
