@@ -1,5 +1,5 @@
 -- What stands before ` after ` and a path.
-use Rattle.std.proofs.Common.{◌≡◌, ◌∙◌, sym, ap, ap₂, refl, subst, ℕ, List, [], ◌∷◌, ◌++◌, codes, arith, append_assoc}
+use Rattle.std.proofs.Common.{◌≡◌, ◌∙◌, sym, ap, ap₂, refl, ℕ, List, ◌∷◌, ◌++◌, codes, arith, append_assoc}
 use Rattle.cc_base.specs.Paths.{Path, path_text}
 use Rattle.report_words.specs.Cuts.{Lacks, CutLast}
 use Rattle.report_words.specs.Words.{IsPath}

@@ -1,5 +1,5 @@
 -- The line of bounds, from the left, and its values.
-use Rattle.std.proofs.Common.{◌≡◌, ◌∙◌, sym, ap, ap₂, refl, subst, ℕ, suc, ◌^◌, ◌<◌, ◌≤◌, inl, inr, ℤ, pos, negsuc, ◌≤ℤ◌, true, List, [], ◌∷◌, ◌++◌, codes, arith, append_assoc, Option, Some, None, IfSome}
+use Rattle.std.proofs.Common.{◌≡◌, ◌∙◌, sym, ap, refl, subst, ℕ, suc, ◌^◌, ◌<◌, inl, inr, ℤ, pos, negsuc, ◌≤ℤ◌, true, List, ◌∷◌, ◌++◌, codes, arith, append_assoc, Option, Some, None, IfSome}
 use Rattle.std.proofs.lemmas.Int.{ints}
 use Rattle.std.specs.Fmt.{decimal, signed_decimal}
 use Rattle.cc_base.specs.Limits.{Limits, InRange}
@@ -8,7 +8,7 @@ use Rattle.report_words.specs.Cuts.{Lacks, CutFirst}
 use Rattle.report_words.specs.Words.{IsSigned}
 use Rattle.report_words.proofs.Cutting.{has_none, lacks_append, lacks_by_test, first_once}
 use Rattle.report_words.proofs.Texts.{lacks_decimal}
-use Rattle.replay.specs.Behind.{IsNamed, Stands, AreValues, AreNumbers}
+use Rattle.replay.specs.Behind.{Stands, AreValues, AreNumbers}
 use Rattle.replay.specs.Lines.{IsBounds}
 use Rattle.replay.proofs.Shapes.{cancel}
 

@@ -1,10 +1,10 @@
 -- The lines of a tests file, one after the other.
-use Rattle.std.proofs.Common.{◌≡◌, ◌∙◌, sym, ap, ap₂, refl, subst, ℕ, suc, ◌+◌, ◌<◌, ◌≤◌, ◌⊎◌, inl, inr, List, [], ◌∷◌, ◌++◌, length, arith, append_assoc}
+use Rattle.std.proofs.Common.{◌≡◌, ◌∙◌, sym, ap, refl, subst, ℕ, suc, List, [], ◌∷◌, ◌++◌, append_assoc}
 use Rattle.cc_base.specs.declared.inputs.Test.{Test}
 use Rattle.cc_base.specs.Limits.{Limits}
 use Rattle.cc_model.specs.Core.{Program}
-use Rattle.report_words.specs.Cuts.{CutFirst}
-use Rattle.report_words.proofs.Cutting.{first_once}
+use Rattle.report_words.specs.Cuts.{Lacks, CutFirst}
+use Rattle.report_words.proofs.Cutting.{first_once, no_first}
 use Rattle.replay.specs.declared.line.Line.{Line as Kind}
 use Rattle.replay.specs.declared.line.Line.TheVariants as of
 use Rattle.replay.specs.Files.{AreLines, no_line, test_line, other_line, IsBadAt, this_line, line_behind, tests_in, lines_in, IsFaulty}
@@ -39,18 +39,18 @@ module _ (p : Program) (b : Limits) where
   firstly n text ts ns e (other_line _ _ line rest _ _ c i l) =
       record { line = line; rest = rest; kind = of.Other; cut = c; is = i; later_tests = ts; later_lines = ns; later = l; tests = refl; lines = refl }
 
+  no_bad : (line : List ℕ) (k : Kind) → k ≡ of.Bad → IsLine p b line k → ⊥
+  no_bad line _ e (test t w g) = cc e
+  no_bad line _ e (past t w g) = cc e
+  no_bad line _ e (stray t q w g h) = cc e
+  no_bad line _ e (unrun i q w g h) = cc e
+  no_bad line _ e (other w) = cc e
+
   pub one_more : (n : ℕ) (text line rest : List ℕ) (kind : Kind) → CutFirst 10 text line rest → IsLine p b line kind → (ts : List Test) (ns : List ℕ) →
       AreLines p b (suc n) rest ts ns → AreLines p b n text (tests_in kind ++ ts) (lines_in n kind ++ ns)
   one_more n text line rest (of.Test t) c i ts ns l = test_line n text line rest t ts ns c i l
   one_more n text line rest of.Other c i ts ns l = other_line n text line rest ts ns c i l
   one_more n text line rest of.Bad c i ts ns l = absurd (no_bad line of.Bad refl i)
-    where
-      no_bad : (line : List ℕ) (k : Kind) → k ≡ of.Bad → IsLine p b line k → ⊥
-      no_bad line _ e (test t w g) = cc e
-      no_bad line _ e (past t w g) = cc e
-      no_bad line _ e (stray t q w g h) = cc e
-      no_bad line _ e (unrun i q w g h) = cc e
-      no_bad line _ e (other w) = cc e
 
   -- the lines before the rest are passed, with these tests
   pub record UpTo (start : List ℕ) (n : ℕ) (rest : List ℕ) (tests : List Test) (lines : List ℕ) : Type 0 where
@@ -77,9 +77,13 @@ module _ (p : Program) (b : Limits) where
   back_one n text line rest kind c only us ms h =
       let f = firstly n text us ms (not_empty text line rest c) h in
       let r = first_once 10 text f.line f.rest line rest f.cut c in
-      let k : kind ≡ f.kind = only f.kind (subst (λ t. IsLine p b t f.kind) r.0 f.is) in
-      (f.later_tests, f.later_lines, subst (λ t. AreLines p b (suc n) t f.later_tests f.later_lines) r.1 f.later,
-          f.tests ∙ ap (λ x. tests_in x ++ f.later_tests) (sym k), f.lines ∙ ap (λ x. lines_in n x ++ f.later_lines) (sym k))
+      let k : kind ≡ f.kind = only f.kind (subst (λ t. IsLine p b t f.kind) r.0 f.is) in (
+        f.later_tests,
+        f.later_lines,
+        subst (λ t. AreLines p b (suc n) t f.later_tests f.later_lines) r.1 f.later,
+        f.tests ∙ ap (λ x. tests_in x ++ f.later_tests) (sym k),
+        f.lines ∙ ap (λ x. lines_in n x ++ f.later_lines) (sym k),
+      )
 
   pub passed : (start : List ℕ) (n next : ℕ) (text line rest : List ℕ) (kind : Kind) (old new : List Test) (old_lines new_lines : List ℕ) →
       CutFirst 10 text line rest → IsLine p b line kind → ((l : Kind) → IsLine p b line l → kind ≡ l) → new ≡ old ++ tests_in kind → new_lines ≡ old_lines ++ lines_in n kind →
@@ -92,10 +96,13 @@ module _ (p : Program) (b : Limits) where
         subst (λ x. AreLines p b 2 start x (new_lines ++ ns)) (sym a) (subst (λ y. AreLines p b 2 start (old ++ (tests_in kind ++ ts)) y) (sym d) l);
     back = λ ts ns h.
         let w = u.back ts ns h in
-        let o = back_one n text line rest kind c only w.0 w.1 w.2 in
-        (o.0, o.1, subst (λ x. AreLines p b x rest o.0 o.1) (sym g) o.2,
-            w.3 ∙ ap (λ x. old ++ x) o.3 ∙ sym (append_assoc old (tests_in kind) o.0) ∙ ap (λ x. x ++ o.0) (sym e),
-            w.4 ∙ ap (λ x. old_lines ++ x) o.4 ∙ sym (append_assoc old_lines (lines_in n kind) o.1) ∙ ap (λ x. x ++ o.1) (sym f));
+        let o = back_one n text line rest kind c only w.0 w.1 w.2 in (
+          o.0,
+          o.1,
+          subst (λ x. AreLines p b x rest o.0 o.1) (sym g) o.2,
+          w.3 ∙ ap (λ x. old ++ x) o.3 ∙ sym (append_assoc old (tests_in kind) o.0) ∙ ap (λ x. x ++ o.0) (sym e),
+          w.4 ∙ ap (λ x. old_lines ++ x) o.4 ∙ sym (append_assoc old_lines (lines_in n kind) o.1) ∙ ap (λ x. x ++ o.1) (sym f),
+        );
     bad = λ m h. u.bad m (line_behind n m text line rest kind c i (subst (λ x. IsBadAt p b x rest m) g h));
     bad_back = λ m h. subst (λ x. IsBadAt p b x rest m) (sym g) (bad_later n m text line rest kind c i (u.bad_back m h));
   }
@@ -140,3 +147,12 @@ module _ (p : Program) (b : Limits) where
 
   pub stops_there : (start rest : List ℕ) (n m : ℕ) (tests : List Test) (lines : List ℕ) → IsFaulty p b rest → UpTo start n rest tests lines → IsBadAt p b 2 start m → n ≡ m
   stops_there start rest n m tests lines faulty u h = same_line n m rest faulty (u.bad_back m h)
+
+  -- a line that is none
+  pub faulty_cut : (rest : List ℕ) → Lacks 10 rest → IsFaulty p b rest
+  faulty_cut rest l = λ line more k c i. no_first 10 rest line more l c
+
+  pub faulty_bad : (rest line behind : List ℕ) (kind : Kind) → CutFirst 10 rest line behind → kind ≡ of.Bad → ((l : Kind) → IsLine p b line l → kind ≡ l) → IsFaulty p b rest
+  faulty_bad rest line behind kind c e only = λ that more l d i.
+      let r = first_once 10 rest line behind that more c d in
+      no_bad that l (sym (only l (subst (λ t. IsLine p b t l) (sym r.0) i)) ∙ e) i

@@ -8,3 +8,4 @@ pub mod LineLaws
 pub mod NamedLaws
 pub mod BoundsLaws
 pub mod BeforeLaws
+pub mod WholeFile

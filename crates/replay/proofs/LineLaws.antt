@@ -1,5 +1,5 @@
 -- What a line is, by its first word.
-use Rattle.std.proofs.Common.{◌≡◌, ◌∙◌, sym, ap, ap₂, refl, subst, ℕ, List, [], ◌∷◌, ◌++◌, codes, All}
+use Rattle.std.proofs.Common.{◌≡◌, ◌∙◌, sym, ap, ap₂, refl, subst, ℕ, List, ◌∷◌, ◌++◌, codes, Result, Ok, Err, IfOk}
 use Rattle.cc_base.specs.declared.inputs.Input.{Input}
 use Rattle.cc_base.specs.declared.inputs.Test.{Test}
 use Rattle.cc_base.specs.Inputs.{map_text, test_text}
@@ -13,9 +13,9 @@ use Rattle.replay.specs.declared.line.Line.{Line}
 use Rattle.replay.specs.declared.line.Line.TheVariants as of
 use Rattle.replay.specs.Forms.{IsOther}
 use Rattle.replay.specs.Lines.{IsLine, test, past, stray, unrun, other}
-use Rattle.replay.specs.Reading.{IsBefore, IsStray, IsInputText, IsUnrun}
-use Rattle.replay.specs.TestTexts.{IsTestText, IsGood, IsShortInput}
-use Rattle.replay.proofs.FormLaws.{other_has_blank}
+use Rattle.replay.specs.Reading.{Tells, IsStray, IsUnrun}
+use Rattle.replay.specs.TestTexts.{IsTestText}
+use Rattle.replay.proofs.FormLaws.{apart, IsNoFirst, not_other, no_test, no_past, no_stray, no_unrun, other_has_blank}
 use Rattle.replay.proofs.Shapes.{cancel}
 
 module _ (p : Program) (b : Limits) where
@@ -79,3 +79,74 @@ module _ (p : Program) (b : Limits) where
   pub unrun_is : (line first rest : List ℕ) → CutFirst 32 line first rest → first ≡ codes "unrun" → IsUnrun p b rest → IsLine p b line of.Other
   unrun_is line first rest c e (before, q, h, (i, w, g)) =
       unrun i q (ap (λ l. l ++ newline) (c.is ∙ ap₂ (λ x y. x ++ 32 ∷ y) e (h.is ∙ ap (λ z. z ++ codes " after " ++ path_text q) w))) g h.bytes
+
+  -- ---- what is told of each first word
+
+  no_form : (line first rest k : List ℕ) → CutFirst 32 line first rest → first ≡ k → IsNoFirst k → IsOther line → ⊥
+  no_form line first rest k c e n o = not_other k line rest n (subst (λ x. CutFirst 32 line x rest) e c) o
+
+  pub test_only : {E : Type 0} (line first rest : List ℕ) (r : Result Line E) → CutFirst 32 line first rest → first ≡ codes "test" →
+      ((t : Test) → IsTestText p b rest t → IfOk r (λ x. x ≡ of.Test t)) → (l : Line) → IsLine p b line l → IfOk r (λ x. x ≡ l)
+  test_only line first rest r c e only l h = by l (told line first rest l c h)
+    where
+      by : (l : Line) → Told line first rest l → IfOk r (λ x. x ≡ l)
+      by _ (as_test t f k) = only t k
+      by _ (as_past t f k) = absurd (apart (codes "test") (codes "past") refl (sym e ∙ f))
+      by _ (as_stray t f k) = absurd (apart (codes "test") (codes "stray") refl (sym e ∙ f))
+      by _ (as_unrun f k) = absurd (apart (codes "test") (codes "unrun") refl (sym e ∙ f))
+      by _ (as_other o) = absurd (no_form line first rest (codes "test") c e no_test o)
+
+  pub past_only : {E : Type 0} (line first rest : List ℕ) (r : Result Line E) → CutFirst 32 line first rest → first ≡ codes "past" →
+      ((t : Test) → IsTestText p b rest t → IfOk r (λ x. x ≡ of.Test t)) → (l : Line) → IsLine p b line l → IfOk r (λ x. x ≡ l)
+  past_only line first rest r c e only l h = by l (told line first rest l c h)
+    where
+      by : (l : Line) → Told line first rest l → IfOk r (λ x. x ≡ l)
+      by _ (as_test t f k) = absurd (apart (codes "past") (codes "test") refl (sym e ∙ f))
+      by _ (as_past t f k) = only t k
+      by _ (as_stray t f k) = absurd (apart (codes "past") (codes "stray") refl (sym e ∙ f))
+      by _ (as_unrun f k) = absurd (apart (codes "past") (codes "unrun") refl (sym e ∙ f))
+      by _ (as_other o) = absurd (no_form line first rest (codes "past") c e no_past o)
+
+  pub stray_only : {E : Type 0} (line first rest : List ℕ) (r : Result Line E) → CutFirst 32 line first rest → first ≡ codes "stray" →
+      ((t : Test) → IsStray p b rest t → IfOk r (λ x. x ≡ of.Test t)) → (l : Line) → IsLine p b line l → IfOk r (λ x. x ≡ l)
+  stray_only line first rest r c e only l h = by l (told line first rest l c h)
+    where
+      by : (l : Line) → Told line first rest l → IfOk r (λ x. x ≡ l)
+      by _ (as_test t f k) = absurd (apart (codes "stray") (codes "test") refl (sym e ∙ f))
+      by _ (as_past t f k) = absurd (apart (codes "stray") (codes "past") refl (sym e ∙ f))
+      by _ (as_stray t f k) = only t k
+      by _ (as_unrun f k) = absurd (apart (codes "stray") (codes "unrun") refl (sym e ∙ f))
+      by _ (as_other o) = absurd (no_form line first rest (codes "stray") c e no_stray o)
+
+  pub unrun_only : {E : Type 0} (line first rest : List ℕ) (r : Result Line E) → CutFirst 32 line first rest → first ≡ codes "unrun" →
+      (IsUnrun p b rest → IfOk r (λ x. x ≡ of.Other)) → (l : Line) → IsLine p b line l → IfOk r (λ x. x ≡ l)
+  unrun_only line first rest r c e only l h = by l (told line first rest l c h)
+    where
+      by : (l : Line) → Told line first rest l → IfOk r (λ x. x ≡ l)
+      by _ (as_test t f k) = absurd (apart (codes "unrun") (codes "test") refl (sym e ∙ f))
+      by _ (as_past t f k) = absurd (apart (codes "unrun") (codes "past") refl (sym e ∙ f))
+      by _ (as_stray t f k) = absurd (apart (codes "unrun") (codes "stray") refl (sym e ∙ f))
+      by _ (as_unrun f k) = only k
+      by _ (as_other o) = absurd (no_form line first rest (codes "unrun") c e no_unrun o)
+
+  pub other_only : {E : Type 0} (line first rest : List ℕ) (r : Result Line E) → CutFirst 32 line first rest →
+      (first ≡ codes "test" → ⊥) × (first ≡ codes "past" → ⊥) × (first ≡ codes "stray" → ⊥) × (first ≡ codes "unrun" → ⊥) →
+      (IsOther line → IfOk r (λ x. x ≡ of.Other)) → (l : Line) → IsLine p b line l → IfOk r (λ x. x ≡ l)
+  other_only line first rest r c n only l h = by l (told line first rest l c h)
+    where
+      by : (l : Line) → Told line first rest l → IfOk r (λ x. x ≡ l)
+      by _ (as_test t f k) = absurd (n.0 f)
+      by _ (as_past t f k) = absurd (n.1 f)
+      by _ (as_stray t f k) = absurd (n.2 f)
+      by _ (as_unrun f k) = absurd (n.3 f)
+      by _ (as_other o) = only o
+
+-- what is told of more
+tells : (P R : Test → Type 0) (Q S : Type 0) → ((t : Test) → P t → R t) → (Q → S) → (l : Line) → Tells P Q l → Tells R S l
+tells P R Q S f g (of.Test t) h = f t h
+tells P R Q S f g of.Other h = g h
+tells P R Q S f g of.Bad h = tt
+
+pub if_tells : {E : Type 0} (P R : Test → Type 0) (Q S : Type 0) (r : Result Line E) → ((t : Test) → P t → R t) → (Q → S) → IfOk r (λ l. Tells P Q l) → IfOk r (λ l. Tells R S l)
+if_tells P R Q S (Ok l) f g h = tells P R Q S f g l h
+if_tells P R Q S (Err e) f g h = tt

@@ -1,6 +1,6 @@
 -- A map text has no blank.
-use Rattle.std.proofs.Common.{◌≡◌, refl, subst, ℕ, suc, ◌^◌, ◌<◌, ◌≤◌, inl, inr, ℤ, pos, negsuc, List, [], ◌∷◌, ◌++◌, codes, arith}
-use Rattle.std.specs.Fmt.{decimal, signed_decimal}
+use Rattle.std.proofs.Common.{refl, suc, inl, ℤ, pos, negsuc, List, [], ◌∷◌, ◌++◌, codes, arith}
+use Rattle.std.specs.Fmt.{signed_decimal}
 use Rattle.cc_base.specs.declared.inputs.Input.{Input}
 use Rattle.cc_base.specs.Inputs.{numbers_text, cells_text, stream_text, map_text}
 use Rattle.input_map.specs.Maps.{IsShort, AllShort}

@@ -1,8 +1,7 @@
 -- Values behind their names.
-use Rattle.std.proofs.Common.{◌≡◌, ◌∙◌, sym, ap, refl, subst, ℕ, ◌<◌, ◌^◌, inl, inr, List, [], ◌∷◌, ◌++◌, codes, arith, append_assoc, Option, Some, None, Bool, true, false}
+use Rattle.std.proofs.Common.{◌≡◌, ◌∙◌, sym, ap, subst, ℕ, inr, List, ◌∷◌, ◌++◌, codes, arith, append_assoc, Bool, true, false}
 use Rattle.std.proofs.lemmas.Slice.Eq.{bytes_eq-Decides}
 use Rattle.std.specs.Prelude.{bytes_eq, IsTrue, ◌↔◌}
-use Rattle.std.specs.Fmt.{decimal}
 use Rattle.report_words.specs.Cuts.{Lacks, CutFirst, CutLast}
 use Rattle.report_words.specs.Words.{IsNumber}
 use Rattle.report_words.proofs.Cutting.{first_once, last_once, no_first, no_last}

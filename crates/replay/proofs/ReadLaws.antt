@@ -1,5 +1,5 @@
 -- A test and its text.
-use Rattle.std.proofs.Common.{◌≡◌, ◌∙◌, sym, ap, refl, subst, ℕ, ◌⊎◌, inl, inr, List, [], ◌∷◌, ◌++◌, codes, Result, Ok, Err}
+use Rattle.std.proofs.Common.{◌≡◌, ◌∙◌, sym, ap, subst, ℕ, inl, inr, List, ◌++◌, codes, Result, Ok, Err}
 use Rattle.cc_base.specs.declared.ends.End.{End}
 use Rattle.cc_base.specs.declared.inputs.Input.{Input}
 use Rattle.cc_base.specs.declared.inputs.Test.{Test}
@@ -16,7 +16,7 @@ use Rattle.input_map.specs.CellFaults as maps
 use Rattle.input_map.specs.Maps.{IsMap}
 use Rattle.replay.specs.declared.faults.TestFault.{TestFault}
 use Rattle.replay.specs.declared.faults.TestFault.TheVariants as fault
-use Rattle.replay.specs.TestTexts.{ThreeWords, IsTestText, IsShortInput, IsGood, TestRefused, WordsRefused, FaultOf, IsOrNoMemory}
+use Rattle.replay.specs.TestTexts.{ThreeWords, IsTestText, TestRefused, WordsRefused, FaultOf, IsOrNoMemory}
 use Rattle.replay.proofs.MapLacks.{lacks_map}
 
 pub words_of : (p : Program) (b : Limits) (text : List ℕ) (t : Test) → IsTestText p b text t → ThreeWords text t.path t.end (map_text t.input)
@@ -80,3 +80,23 @@ read_only p b text path e m i t read same h = by (read t.input (map_of p b text 
     by : maps.IsOrNoMemory (Ok i) (Ok t.input) → IsOrNoMemory (Ok (record { path = path; end = e; input = i })) (Ok t)
     by (inl x) = let k : i ≡ t.input = cc x in inl (ap Ok (same_test path e i t same.0 same.1 k))
     by (inr x) = absurd (cc x)
+
+-- ---- and refusals
+
+pub form_only : (text : List ℕ) (f : TestFault) → WordsRefused text f → IsOrNoMemory (Err f) (Err fault.Form)
+form_only text f (inl e) = inr (ap Err e)
+form_only text f (inr (e, none)) = inl (ap Err e)
+
+pub words_or_memory : (text : List ℕ) (f : TestFault) (path : Path) (e : End) (m : List ℕ) (r : Result Test TestFault) → WordsRefused text f → ThreeWords text path e m → IsOrNoMemory (Err f) r
+words_or_memory text f path e m r (inl k) w = inr (ap Err k)
+words_or_memory text f path e m r (inr (k, none)) w = absurd (none path e m w)
+
+pub no_fault : (i : Input) (g : MapFault) → maps.IsOrNoMemory (Ok i) (Err g) → ⊥
+no_fault i g (inl x) = cc x
+no_fault i g (inr x) = cc x
+
+pub same_fault : (g h : MapFault) (f : TestFault) → maps.IsOrNoMemory (Err g) (Err h) → FaultOf g f → IsOrNoMemory (Err f) (Err (fault.Map h))
+same_fault g h f (inl x) (inl (n, k)) = inr (ap Err k)
+same_fault g h f (inl x) (inr (k, other)) = let e : g ≡ h = cc x in inl (ap Err (k ∙ ap fault.Map e))
+same_fault g h f (inr x) (inl (n, k)) = inr (ap Err k)
+same_fault g h f (inr x) (inr (k, other)) = absurd (other (cc x))

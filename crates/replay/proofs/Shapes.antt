@@ -1,5 +1,5 @@
 -- How texts of pieces read from the left.
-use Rattle.std.proofs.Common.{◌≡◌, ◌∙◌, sym, ap, refl, ℕ, List, [], ◌∷◌, ◌++◌, codes, append_assoc}
+use Rattle.std.proofs.Common.{◌≡◌, ◌∙◌, refl, ℕ, List, [], ◌∷◌, ◌++◌, codes, append_assoc}
 
 -- three words
 pub three : (a b m : List ℕ) → a ++ codes " " ++ b ++ codes " " ++ m ≡ a ++ 32 ∷ (b ++ 32 ∷ m)

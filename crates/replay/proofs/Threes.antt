@@ -1,10 +1,10 @@
 -- The three words of a test's text.
-use Rattle.std.proofs.Common.{◌≡◌, ◌∙◌, sym, ap, ap₂, refl, subst, ℕ, List, [], ◌∷◌, ◌++◌, codes, arith}
+use Rattle.std.proofs.Common.{◌≡◌, ◌∙◌, sym, ap, ap₂, subst, ℕ, List, ◌∷◌, ◌++◌, arith}
 use Rattle.cc_base.specs.declared.ends.End.{End}
 use Rattle.cc_base.specs.Ends.{end_text}
 use Rattle.cc_base.specs.Paths.{Path, path_text}
 use Rattle.report_words.specs.Cuts.{Lacks, CutFirst}
-use Rattle.report_words.specs.Words.{IsPath, IsEnd, HasLine}
+use Rattle.report_words.specs.Words.{IsPath, IsEnd}
 use Rattle.report_words.proofs.Cutting.{no_first, first_once}
 use Rattle.report_words.proofs.Texts.{lacks_path, lacks_end}
 use Rattle.replay.specs.TestTexts.{ThreeWords}

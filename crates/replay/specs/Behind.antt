@@ -1,5 +1,5 @@
 -- A value behind its name.
-use Rattle.std.specs.Prelude.{ℕ, ◌≡◌, List, ◌∷◌, ◌++◌, codes, Option, Some, None}
+use Rattle.std.specs.Prelude.{ℕ, ◌≡◌, List, ◌++◌, codes, Option, Some, None}
 use Rattle.std.specs.Fmt.{decimal}
 use Rattle.cc_base.specs.Limits.{Limits, InRange}
 use Rattle.report_words.specs.Cuts.{Lacks, CutFirst}

@@ -54,23 +54,23 @@ AreWords (f ∷ g ∷ form) text = (word rest : List ℕ) × CutFirst 32 text wo
 
 abbrev pub other_forms : List (List WordForm)
 other_forms =
-  -- spent PREFIX
-  (the (codes "spent") ∷ path ∷ [])
-  -- term LINE:COL KIND
-  ∷ (the (codes "term") ∷ place ∷ term_kind ∷ [])
-  -- event I OUTCOME LINE KIND
-  ∷ (the (codes "event") ∷ number ∷ outcome ∷ number ∷ site_kind ∷ [])
-  -- complete paths=P runs=R
-  ∷ (the (codes "complete") ∷ named (codes "paths") ∷ named (codes "runs") ∷ [])
-  -- incomplete terms=A spent=B steps=C strays=E unrun=G
-  ∷ (the (codes "incomplete") ∷ named (codes "terms") ∷ named (codes "spent") ∷ named (codes "steps") ∷ named (codes "strays") ∷ named (codes "unrun") ∷ [])
-  -- ended runs=R covered=C of M
-  ∷ (the (codes "ended") ∷ named (codes "runs") ∷ named (codes "covered") ∷ the (codes "of") ∷ number ∷ [])
-  -- replayed T
-  ∷ (the (codes "replayed") ∷ number ∷ [])
-  -- differs LINE PATH END actual PATH END
-  ∷ (the (codes "differs") ∷ number ∷ path ∷ end ∷ the (codes "actual") ∷ path ∷ end ∷ [])
-  ∷ []
+    -- spent PREFIX
+    (the (codes "spent") ∷ path ∷ [])
+    -- term LINE:COL KIND
+    ∷ (the (codes "term") ∷ place ∷ term_kind ∷ [])
+    -- event I OUTCOME LINE KIND
+    ∷ (the (codes "event") ∷ number ∷ outcome ∷ number ∷ site_kind ∷ [])
+    -- complete paths=P runs=R
+    ∷ (the (codes "complete") ∷ named (codes "paths") ∷ named (codes "runs") ∷ [])
+    -- incomplete terms=A spent=B steps=C strays=E unrun=G
+    ∷ (the (codes "incomplete") ∷ named (codes "terms") ∷ named (codes "spent") ∷ named (codes "steps") ∷ named (codes "strays") ∷ named (codes "unrun") ∷ [])
+    -- ended runs=R covered=C of M
+    ∷ (the (codes "ended") ∷ named (codes "runs") ∷ named (codes "covered") ∷ the (codes "of") ∷ number ∷ [])
+    -- replayed T
+    ∷ (the (codes "replayed") ∷ number ∷ [])
+    -- differs LINE PATH END actual PATH END
+    ∷ (the (codes "differs") ∷ number ∷ path ∷ end ∷ the (codes "actual") ∷ path ∷ end ∷ [])
+    ∷ []
 
 -- the text is a line of a report that holds no input
 abbrev pub IsOther : List ℕ → Type 0

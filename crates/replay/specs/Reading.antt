@@ -1,5 +1,5 @@
 -- What is read of a line of a tests file.
-use Rattle.std.specs.Prelude.{ℕ, ◌≡◌, List, ◌∷◌, ◌++◌, codes, All}
+use Rattle.std.specs.Prelude.{ℕ, ◌≡◌, List, ◌++◌, codes, All}
 use Rattle.cc_base.specs.declared.inputs.Input.{Input}
 use Rattle.cc_base.specs.declared.inputs.Test.{Test}
 use Rattle.cc_base.specs.Inputs.{map_text}
@@ -7,6 +7,8 @@ use Rattle.cc_base.specs.Limits.{Limits}
 use Rattle.cc_base.specs.Outcomes.{HasByte}
 use Rattle.cc_base.specs.Paths.{Path, path_text}
 use Rattle.cc_model.specs.Core.{Program}
+use Rattle.replay.specs.declared.line.First.{First}
+use Rattle.replay.specs.declared.line.First.TheVariants as of
 use Rattle.replay.specs.declared.line.Line.{Line}
 use Rattle.replay.specs.declared.line.Line.TheVariants.{Test as with_test, Other, Bad}
 use Rattle.replay.specs.TestTexts.{IsTestText, IsShortInput}
@@ -16,6 +18,14 @@ abbrev pub Tells : (Test → Type 0) → Type 0 → Line → Type 0
 Tells P Q (with_test t) = P t
 Tells P Q Other = Q
 Tells P Q Bad = Unit {0}
+
+-- the first word of a line
+abbrev pub IsFirst : List ℕ → First → Type 0
+IsFirst word of.Test = word ≡ codes "test"
+IsFirst word of.Past = word ≡ codes "past"
+IsFirst word of.Stray = word ≡ codes "stray"
+IsFirst word of.Unrun = word ≡ codes "unrun"
+IsFirst word of.Other = (word ≡ codes "test" → ⊥) × (word ≡ codes "past" → ⊥) × (word ≡ codes "stray" → ⊥) × (word ≡ codes "unrun" → ⊥)
 
 -- the text ends with ` after ` and the text of the path
 pub record IsBefore (text before : List ℕ) (q : Path) : Type 0 where

@@ -1,5 +1,5 @@
 -- What is written of a replay, and its status. The lines and the statuses are this project's own.
-use Rattle.std.specs.Prelude.{ℕ, ◌≡◌, List, [], ◌∷◌, ◌++◌, codes}
+use Rattle.std.specs.Prelude.{ℕ, List, [], ◌∷◌, ◌++◌, codes}
 use Rattle.std.specs.Fmt.{decimal}
 use Rattle.cc_base.specs.declared.ends.End.{End}
 use Rattle.cc_base.specs.declared.inputs.Test.{Test}

@@ -85,7 +85,14 @@ const DIFFERS: [Word; 7] = [
 
 /// The forms.
 const OTHERS: [&[Word]; 8] = [
-    &SPENT, &TERM, &EVENT, &COMPLETE, &INCOMPLETE, &ENDED, &REPLAYED, &DIFFERS,
+    &SPENT,
+    &TERM,
+    &EVENT,
+    &COMPLETE,
+    &INCOMPLETE,
+    &ENDED,
+    &REPLAYED,
+    &DIFFERS,
 ];
 
 /// Whether a word is two numbers with a colon between them.

@@ -9,7 +9,7 @@ ghost use Rattle.replay.specs.Behind.{HasSome};
 ghost use Rattle.replay.specs.declared.line.Line.TheVariants as of;
 ghost use Rattle.replay.specs.Forms.{IsOther};
 ghost use Rattle.replay.specs.Lines.{IsLine};
-ghost use Rattle.replay.specs.Reading.{Tells, IsBefore, IsStray, IsInputText, IsUnrun};
+ghost use Rattle.replay.specs.Reading.{Tells, IsFirst, IsBefore, IsStray, IsInputText, IsUnrun};
 ghost use Rattle.input_map.specs.declared.faults.MapFault.TheVariants as map_fault;
 ghost use Rattle.replay.specs.TestTexts.{IsTestText};
 
@@ -155,6 +155,30 @@ fn other_line(alloc: Global, line: &[u8]) -> Result<Line, NoMemory>
     }
 }
 
+/// The first word of a line.
+#[derive(Clone, Copy)]
+enum First {
+    Test,
+    Past,
+    Stray,
+    Unrun,
+    /// One behind which no input stands.
+    Other,
+}
+
+/// What the first word of a line is.
+fn first_of(word: &[u8]) -> First
+    ensures { IsFirst word.now result }
+{
+    match word {
+        b"test" => First::Test,
+        b"past" => First::Past,
+        b"stray" => First::Stray,
+        b"unrun" => First::Unrun,
+        _ => First::Other,
+    }
+}
+
 /// What a line is, within the file's bounds.
 pub(crate) fn read_line(
     alloc: Global,
@@ -167,12 +191,12 @@ pub(crate) fn read_line(
 {
     match cut_first(line, b' ') {
         None => Ok(Line::Bad),
-        Some(parts) => match parts.before {
-            b"test" => test_line(alloc, parts.behind, checked, bounds),
-            b"past" => test_line(alloc, parts.behind, checked, bounds),
-            b"stray" => stray_line(alloc, parts.behind, checked, bounds),
-            b"unrun" => unrun_line(alloc, parts.behind, checked, bounds),
-            _ => other_line(alloc, line),
+        Some(parts) => match first_of(parts.before) {
+            First::Test => test_line(alloc, parts.behind, checked, bounds),
+            First::Past => test_line(alloc, parts.behind, checked, bounds),
+            First::Stray => stray_line(alloc, parts.behind, checked, bounds),
+            First::Unrun => unrun_line(alloc, parts.behind, checked, bounds),
+            First::Other => other_line(alloc, line),
         },
     }
 }

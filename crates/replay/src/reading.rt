@@ -1,10 +1,13 @@
 //! The test of a text.
 
-ghost use Rattle.std.specs.Prelude.{◌≡◌, IfOk, IfErr, Ok, List, ℕ};
+ghost use Rattle.std.specs.Prelude.{◌≡◌, IfOk, IfErr, Ok, Err, List, ℕ};
 ghost use Rattle.cc_base.specs.declared.ends.End.{End as SeenEnd};
 ghost use Rattle.cc_base.specs.declared.inputs.Test.{Test as Seen};
 ghost use Rattle.cc_base.specs.Paths.{Path};
 ghost use Rattle.cc_model.specs.CheckedProgram.{core_of};
+ghost use Rattle.input_map.specs.declared.faults.MapFault.{MapFault as SeenFault};
+ghost use Rattle.input_map.specs.CellFaults.{Refused};
+ghost use Rattle.replay.specs.declared.faults.TestFault.TheVariants as fault;
 ghost use Rattle.replay.specs.TestTexts.{ThreeWords, IsTestText, TestRefused, WordsRefused, FaultOf, IsOrNoMemory};
 
 use crate::faults::TestFault;
@@ -76,6 +79,8 @@ pub fn read_test(
     ensures read { IfOk result (λ t. IsTestText (core_of checked.now) bounds.now text.now t) }
     ensures only { (t : Seen) → IsTestText (core_of checked.now) bounds.now text.now t → IsOrNoMemory result (Ok t) }
     ensures refused { IfErr result (λ f. TestRefused (core_of checked.now) bounds.now text.now f) }
+    ensures only_form { ((p : Path) (e : SeenEnd) (map : List ℕ) → ThreeWords text.now p e map → ⊥) → IsOrNoMemory result (Err fault.Form) }
+    ensures only_map { (p : Path) (e : SeenEnd) (map : List ℕ) (f : SeenFault) → ThreeWords text.now p e map → Refused (core_of checked.now) bounds.now map f → IsOrNoMemory result (Err (fault.Map f)) }
 {
     let words = three_words(alloc, text)?;
     match read_map(alloc, words.map, checked, bounds) {

@@ -71,8 +71,8 @@ pub fn replay_test(
 {
     let trace = run(alloc, checked, tac, &test.input, bounds)?;
     let path = trace.path(alloc)?;
-    let is_real =
-        is_same_path(path.as_slice(), test.path.as_slice()) && is_same_end(trace.end, test.end);
+    let is_real = is_same_path(path.as_slice(), test.path.as_slice())
+        && is_same_end(trace.end, test.end);
     if is_real {
         Ok(Replayed::Same)
     } else {

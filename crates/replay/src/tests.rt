@@ -191,7 +191,10 @@ fn every_form_is_read(rt: HostRuntime) -> Result<(), NoMemory> {
         return Ok(());
     };
     assert_eq!(rt; tests.bounds.depth(), 10);
-    assert_eq!(rt; tests.lines.as_slice(), [2, 3, 4, 23, 24, 25, 26, 27].as_slice());
+    assert_eq!(rt;
+        tests.lines.as_slice(),
+        [2, 3, 4, 23, 24, 25, 26, 27].as_slice()
+    );
     assert_eq!(rt; tests.tests.len(), 8);
     Ok(())
 }
@@ -228,7 +231,12 @@ fn ends_of_files(rt: HostRuntime) -> Result<(), NoMemory> {
     let cut = read_tests(rt.alloc(), FIRST[..FIRST.len() - 1].as_bytes(), &checked);
     assert!(rt; matches!(cut, Err(TestsFault::Line(1))));
     let text = joined(rt.alloc(), &[FIRST, "replayed 6"])?;
-    assert!(rt; matches!(read_tests(rt.alloc(), &text, &checked), Err(TestsFault::Line(2))));
+    assert!(rt;
+        matches!(
+            read_tests(rt.alloc(), &text, &checked),
+            Err(TestsFault::Line(2))
+        )
+    );
     Ok(())
 }
 
@@ -243,6 +251,11 @@ fn texts_of_tests(rt: HostRuntime) -> Result<(), NoMemory> {
     let form = read_test(rt.alloc(), b"a! null@4", &checked, &bounds);
     assert!(rt; matches!(form, Err(TestFault::Form)));
     let map = read_test(rt.alloc(), b"a! null@4 4,0", &checked, &bounds);
-    assert!(rt; matches!(map, Err(TestFault::Map(input_map::MapFault::NotCanonical(1)))));
+    assert!(rt;
+        matches!(
+            map,
+            Err(TestFault::Map(input_map::MapFault::NotCanonical(1)))
+        )
+    );
     Ok(())
 }

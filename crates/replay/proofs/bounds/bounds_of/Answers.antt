@@ -15,4 +15,4 @@ pub returns-clause-only : goal.returns-clause-only
 returns-clause-only c b h =
     let v = c.in_ok-values.values in
     c.bounds_in.ensures.only b (numbers_there v.lo.now v.hi.now v.depth.now v.objects.now v.steps.now (signed_decimal b.lo) (signed_decimal b.hi) (decimal b.depth) (decimal b.objects) (decimal b.steps) b
-        (c.in_ok-values.ensures.only (signed_decimal b.lo) (signed_decimal b.hi) (decimal b.depth) (decimal b.objects) (decimal b.steps) (bounds_values c.args.line.now b h)) (bounds_numbers c.args.line.now b h))
+    (c.in_ok-values.ensures.only (signed_decimal b.lo) (signed_decimal b.hi) (decimal b.depth) (decimal b.objects) (decimal b.steps) (bounds_values c.args.line.now b h)) (bounds_numbers c.args.line.now b h))

@@ -1,4 +1,3 @@
-use Rattle.std.proofs.Common.{sym}
 use Rattle.replay.proofs.NamedLaws.{stands_cut, stands_has}
 use Rattle.replay.proofs.bounds.next_value.Goals as goal
 

@@ -1,4 +1,3 @@
-use Rattle.std.proofs.Common.{◌≡◌, None, Some, sym, ◌∙◌}
 use Rattle.replay.proofs.BeforeLaws.{before_once, before_has}
 use Rattle.replay.proofs.line.before_prefix.Goals as goal
 
