@@ -14,7 +14,7 @@ use Rattle.concolic_cli.specs.declared.refusal.Refusal.{Refusal}
 use Rattle.concolic_cli.specs.declared.refusal.Refusal.TheVariants as refusal
 use Rattle.concolic_cli.specs.Concolic.{Call, Answered, bad, done, refused, made, unmade, SourceIsRefused, FileFault, NamesFile, its_source, its_tests, FileIsRefused, tests_of, names_of, no_names, made_names}
 use Rattle.concolic_cli.specs.Made.{made_source, made_entry}
-use Rattle.concolic_cli.specs.Refusals.{bad_word_text, file_text, map_text_of, Says, IsAnswered}
+use Rattle.concolic_cli.specs.Refusals.{Names, bad_word_text, file_text, map_text_of, Says, IsAnswered}
 use Rattle.concolic_cli.specs.Loaded.{source_limit, tests_limit, ReadAs}
 use Rattle.concolic_cli.specs.Session.{Wrote, WroteFirst, Stands, nothing, Cause, TestsRefused, SourceCause, WroteLast, WroteLastFirst, LastStands, no_line, MadeCause}
 use Rattle.concolic_cli.specs.Sources.{Refuses}
@@ -59,7 +59,7 @@ replay_status p b total _ _ _ _ all_real = inl refl
 replay_status p b total _ _ _ _ (one_real t tests k lines text n r w) = replay_status p b total tests lines text n w
 replay_status p b total _ _ _ _ (one_differs t tests k lines d) = inr refl
 
-replay_in : (n : ℕ) → (n ≡ 0) ⊎ (n ≡ 8) → In n reports
+pub replay_in : (n : ℕ) → (n ≡ 0) ⊎ (n ≡ 8) → In n reports
 replay_in n (inl e) = inl e
 replay_in n (inr e) = inr (inr (inl e))
 
@@ -98,18 +98,19 @@ pub done_call : (call : Call) (status : ℕ) (told task : Task) → told ≡ tas
     Wrote (call.seen).held (call.seen).out_old (call.seen).out_new told status → call.err_new ≡ call.err_old → Answered call status
 done_call call status told task e a w quiet = done task a (subst (λ k. Wrote (call.seen).held (call.seen).out_old (call.seen).out_new k status) e w) quiet
 
-pub refused_call : (call : Call) (status : ℕ) (why : Refusal) (told task : Task) → told ≡ task → Asks call.words task → Cause call.seen told why →
-    IsAnswered call.err_old call.err_new call.err_faults_old call.err_faults_new (names_of told) why status → Answered call status
-refused_call call status why told task e a cause answered =
+pub refused_call : (call : Call) (status : ℕ) (why : Refusal) (told task : Task) → told ≡ task → Asks call.words task → Cause call.seen told why → (names : Names) → names ≡ names_of told →
+    IsAnswered call.err_old call.err_new call.err_faults_old call.err_faults_new names why status → Answered call status
+refused_call call status why told task e a cause names same answered =
     refused task why a (subst (λ k. Cause call.seen k why) e cause)
-    (subst (λ k. IsAnswered call.err_old call.err_new call.err_faults_old call.err_faults_new (names_of k) why status) e answered)
+    (subst (λ n. IsAnswered call.err_old call.err_new call.err_faults_old call.err_faults_new n why status) (same ∙ ap names_of e) answered)
 
 pub made_call : (call : Call) (status n : ℕ) → Accepted call.words (Make n) → (status ≡ 0) × WroteLast n (call.seen).out_old (call.seen).out_new → call.err_new ≡ call.err_old → Answered call status
 made_call call status n a w quiet = made n a w.1 w.0 quiet
 
 pub unmade_call : (call : Call) (status n : ℕ) (why : Refusal) → Accepted call.words (Make n) → MadeCause n (call.seen).out_old (call.seen).out_new (call.seen).faults_old (call.seen).faults_new why →
-    IsAnswered call.err_old call.err_new call.err_faults_old call.err_faults_new made_names why status → Answered call status
-unmade_call call status n why a cause answered = unmade n why a cause answered
+    (names : Names) → names ≡ made_names → IsAnswered call.err_old call.err_new call.err_faults_old call.err_faults_new names why status → Answered call status
+unmade_call call status n why a cause names same answered =
+    unmade n why a cause (subst (λ m. IsAnswered call.err_old call.err_new call.err_faults_old call.err_faults_new m why status) same answered)
 
 -- ---- by status
 
@@ -199,7 +200,7 @@ module _ (call : Call) (status : ℕ) (task : Task) (a : Asks call.words task) w
   ending_of refusal.TestsFailed c (inr h) = no_memory (nothing c.silent) (h.1, h.2)
   ending_of (refusal.Tests line) c (inl h) =
       at_work (replay c.tests) c.named (refusal.Tests line) _ c.bytes c.read
-      (inr (line, record { program = c.program; source = c.source; file = (c.cause).0; read = (c.cause).1; refused = (c.cause).2 }, refl)) c.silent h
+      (inr (line, record { program = c.program; source = c.source; file = (c.cause).0; read = (c.cause).1; refused = ((c.cause).2).refused; none = ((c.cause).2).none }, refl)) c.silent h
   ending_of (refusal.Tests line) c (inr h) = no_memory (nothing c.silent) (h.1, h.2)
   ending_of refusal.OutputFailed c (inl h) = at_output h.0 c.0 task a c.1 h.1
   ending_of refusal.OutputFailed c (inr h) = absurd (cc h.0)

@@ -3,6 +3,7 @@ mod MapRefusals
 mod TraceLines
 mod Searches
 mod Written
+mod ReplayLaws
 mod Sessions
 mod MadeText
 mod Causes

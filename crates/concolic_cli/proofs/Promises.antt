@@ -25,7 +25,7 @@ use Rattle.cc_outside.specs.Told.{appended}
 use Rattle.input_map.specs.declared.faults.MapFault.{MapFault}
 use Rattle.input_map.specs.CellFaults.{Refused}
 use Rattle.input_map.specs.Maps.{IsMap}
-use Rattle.concolic_cli.specs.Concolic.{Call, HasNoCommand, IsSource, IsSourceOf, Headline, NothingMissedBut, PartStands, of_task, of_make, SourceIsRefused, MadeIsRefused, FileFault, NamesFile, its_source, its_tests, FileIsRefused, IsRefusal, HoldsSome}
+use Rattle.concolic_cli.specs.Concolic.{Call, HasNoCommand, IsSource, IsSourceOf, Headline, NothingMissedBut, PartStands, of_task, of_make, SourceIsRefused, MadeIsRefused, FileFault, NamesFile, its_source, its_tests, FileIsRefused, IsRefusal, HoldsFile, HoldsSome}
 use Rattle.concolic_cli.specs.Listings.{IsEasy, HoldsPaths, room}
 use Rattle.concolic_cli.specs.Made.{made_source, made_entry}
 use Rattle.concolic_cli.specs.Refusals.{bad_word_text, Says}
@@ -35,8 +35,7 @@ use Rattle.concolic_cli.specs.Sources.{Refuses, lexical, syntax, too_deep, fault
 use Rattle.concolic_cli.specs.Tasks.{Task, Work, list, trace, replay, Asks, asks_list, asks_trace, asks_replay, IsAfter, word_of, list_task, trace_task, replay_task, ReplaysAs, IsReport, MayStand, MakesAs, RefusesTask}
 use Rattle.command_words.specs.Words.{Accepted, BadWord}
 use Rattle.replay.specs.Files.{IsTestsFile, IsRefusedAt}
-use Rattle.replay.proofs.FileLaws.{not_both}
-use Rattle.concolic_cli.proofs.Calls.{Ending, at_words, at_report, at_source, at_file, at_output, at_memory, at_make, MakeEnding, at_line, at_made_source, at_made_output, at_made_memory, make_status, not_made, apart, reports, listed_in, run_in, small_of, small_in, list_status, trace_status, replay_in, replayed_status}
+use Rattle.concolic_cli.proofs.Calls.{Ending, at_words, at_report, at_source, at_file, at_output, at_memory, at_make, MakeEnding, at_line, at_made_source, at_made_output, at_made_memory, make_status, not_made, apart, reports, listed_in, run_in, small_of, small_in, list_status, trace_status, replayed_status}
 use Rattle.concolic_cli.proofs.Commands.{OneCommand, of_list, of_trace, of_replay, one_task, not_make, has_after, has_command}
 use Rattle.concolic_cli.proofs.Searches.{runs_of}
 
@@ -94,7 +93,7 @@ replay_unrefused one held bytes entry tests text file only s (inr r) =
     let t = r.1 in
     let same = only t.file t.read in
     let h = s.each t.program t.source in
-    not_both t.program t.file r.0 t.refused h.0 h.1 h.2 (subst (λ u. IsTestsFile t.program u h.0 h.1 h.2) (sym same) h.3)
+    t.none h.0 h.1 h.2 (subst (λ u. IsTestsFile t.program u h.0 h.1 h.2) (sym same) h.3)
 
 -- ---- the counts of a complete listing
 
@@ -513,7 +512,7 @@ module _ (call : Call) (status : ℕ) (one : OneCommand) (answered : Ending call
     -- the files hold a source under the word FILE
     module _ (bytes : List ℕ) (i : IsSource task (call.seen).held bytes) where
       -- the tests file, where the task names one, is held and short
-      TestsFine : Type 0
+      abbrev TestsFine : Type 0
       TestsFine = (tests : List ℕ) → task.work ≡ replay tests → (file : List ℕ) × (file_of tests i.files ≡ Some file) × (length file ≤ tests_limit)
 
       -- the only fault of a file that is held and short can be that the files failed
@@ -528,7 +527,7 @@ module _ (call : Call) (status : ℕ) (one : OneCommand) (answered : Ending call
       held_failed name file limit there short what (inr (inr h)) = h.1
 
       -- no tests of a program of these bytes are replayed
-      NoTests : Type 0
+      abbrev NoTests : Type 0
       NoTests = (tests : List ℕ) (p : Program) → task.work ≡ replay tests → IsProgram bytes task.entry p → ⊥
 
       named_failed : TestsFine ⊎ NoTests → (k : Task) (name : List ℕ) (limit : ℕ) (what : List ℕ) → Asks call.words k → NamesFile (call.seen).held k name limit →
@@ -652,12 +651,18 @@ module _ (call : Call) (status : ℕ) (one : OneCommand) (answered : Ending call
   -- ---- `replay`
 
   module _ (law : OneProgram) (r : ReplayWords) (bytes file : List ℕ) (a : Accepted call.words (Replay r)) (i : IsSource (replay_task call.words r) (call.seen).held bytes)
-      (there : file_of (word_of call.words r.tests) i.files ≡ Some file) (short : length file ≤ tests_limit) where
+      (h : HoldsFile (call.seen).held (word_of call.words r.tests) file) where
+    one_held : {g k : Held} → Some g ≡ Some k → g ≡ k
+    one_held e = cc e
+
+    there : file_of (word_of call.words r.tests) i.files ≡ Some file
+    there = subst (λ k. file_of (word_of call.words r.tests) k ≡ Some file) (one_held (sym h.told ∙ i.told)) h.there
+
     tests_name : {tests other : List ℕ} → replay tests ≡ replay other → tests ≡ other
     tests_name e = cc e
 
     fine : (tests : List ℕ) → replay (word_of call.words r.tests) ≡ replay tests → (f : List ℕ) × (file_of tests i.files ≡ Some f) × (length f ≤ tests_limit)
-    fine tests e = (file, subst (λ n. file_of n i.files ≡ Some file) (tests_name e) there, short)
+    fine tests e = (file, subst (λ n. file_of n i.files ≡ Some file) (tests_name e) there, h.short)
 
     only : (other : List ℕ) → ReadTests (call.seen).held (word_of call.words r.tests) other → other ≡ file
     only other read = let f : file_of (word_of call.words r.tests) i.files ≡ Some other = read.told i.files i.told in cc (f, there)
@@ -679,7 +684,7 @@ module _ (call : Call) (status : ℕ) (one : OneCommand) (answered : Ending call
         neither : {text : List ℕ} {n : ℕ} → ReplaysAs (call.seen).held bytes (replay_task call.words r).entry (word_of call.words r.tests) text n → ⊥
         neither h =
             let same = only h.file h.read in
-            not_both h.program file line (s.each h.program h.source) h.bounds h.all h.lines (subst (λ u. IsTestsFile h.program u h.bounds h.all h.lines) same h.holds)
+            h.unrefused line (subst (λ u. IsRefusedAt h.program u line) (sym same) (s.each h.program h.source))
 
   -- ---- `make`
 

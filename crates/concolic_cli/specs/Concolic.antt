@@ -127,6 +127,13 @@ pub data PartStands (words : List (List ℕ)) (held : Option Held) (out_old out_
   of_task : (task : Task) → Asks words task → Stands held out_old out_new task → PartStands words held out_old out_new
   of_make : (n : ℕ) → Accepted words (Make n) → LastStands n out_old out_new → PartStands words held out_old out_new
 
+-- the files hold these bytes under the name, and they are no more than a tests file may have
+pub record HoldsFile (held : Option Held) (name file : List ℕ) : Type 0 where
+  pub files : Held
+  pub told : held ≡ Some files
+  pub there : file_of name files ≡ Some file
+  pub short : length file ≤ tests_limit
+
 -- the text is a tests file, for the program
 abbrev pub HoldsSome : Program → List ℕ → Type 0
 HoldsSome p file = (b : Limits) × (tests : List Test) × (lines : List ℕ) × IsTestsFile p file b tests lines

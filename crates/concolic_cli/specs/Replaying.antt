@@ -8,7 +8,7 @@ use Rattle.cc_model.specs.Tested.{Real, tested}
 use Rattle.cc_outside.specs.Faults.{Rose}
 use Rattle.cc_outside.specs.Told.{appended, WritesPart}
 use Rattle.replay.specs.declared.tests_file.Tests.{Tests}
-use Rattle.replay.specs.Files.{IsRefusedAt}
+use Rattle.concolic_cli.specs.Session.{LinesRefused}
 use Rattle.replay.specs.ReplayText.{Written}
 use Rattle.concolic_cli.specs.declared.refusal.Refusal.{Refusal}
 use Rattle.concolic_cli.specs.declared.refusal.Refusal.TheVariants as refusal
@@ -37,20 +37,20 @@ abbrev pub AreWithin : Program → Limits → List Test → Type 0
 AreWithin p b tests = (k : ℕ) (t : Test) → slice_get tests k ≡ Some t → IsInput p b t.input
 
 -- the cause of a refusal of the text of a tests file
-abbrev pub LinesRefused : Program → List ℕ → Refusal → Type 0
-LinesRefused p file (refusal.Tests line) = IsRefusedAt p file line
-LinesRefused p file refusal.NoMemory = Unit {0}
-LinesRefused p file (refusal.BadWord n) = ⊥
-LinesRefused p file refusal.Missing = ⊥
-LinesRefused p file refusal.TooLong = ⊥
-LinesRefused p file refusal.FileFailed = ⊥
-LinesRefused p file (refusal.Source line wrong) = ⊥
-LinesRefused p file refusal.NoEntry = ⊥
-LinesRefused p file (refusal.Map f) = ⊥
-LinesRefused p file refusal.TestsMissing = ⊥
-LinesRefused p file refusal.TestsTooLong = ⊥
-LinesRefused p file refusal.TestsFailed = ⊥
-LinesRefused p file refusal.OutputFailed = ⊥
+abbrev pub TextRefused : Program → List ℕ → Refusal → Type 0
+TextRefused p file (refusal.Tests line) = LinesRefused p file line
+TextRefused p file refusal.NoMemory = Unit {0}
+TextRefused p file (refusal.BadWord n) = ⊥
+TextRefused p file refusal.Missing = ⊥
+TextRefused p file refusal.TooLong = ⊥
+TextRefused p file refusal.FileFailed = ⊥
+TextRefused p file (refusal.Source line wrong) = ⊥
+TextRefused p file refusal.NoEntry = ⊥
+TextRefused p file (refusal.Map f) = ⊥
+TextRefused p file refusal.TestsMissing = ⊥
+TextRefused p file refusal.TestsTooLong = ⊥
+TextRefused p file refusal.TestsFailed = ⊥
+TextRefused p file refusal.OutputFailed = ⊥
 
 -- the line for the tests was written, with this status
 pub record WroteReplay (p : Program) (t : Tests) (old new : Option (List ℕ)) (status : ℕ) : Type 0 where

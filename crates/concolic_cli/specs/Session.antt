@@ -15,7 +15,8 @@ use Rattle.concolic_cli.specs.Refusals.{what_text}
 use Rattle.concolic_cli.specs.Sources.{Refuses, source_text, no_entry_text}
 use Rattle.concolic_cli.specs.Loaded.{source_limit, tests_limit, ReadAs, ReadTests, IsMissing, IsTooLong}
 use Rattle.cc_model.specs.Source.{IsProgram}
-use Rattle.replay.specs.Files.{IsRefusedAt}
+use Rattle.cc_base.specs.declared.inputs.Test.{Test}
+use Rattle.replay.specs.Files.{IsTestsFile, IsRefusedAt}
 use Rattle.concolic_cli.specs.Tasks.{Task, Work, list, trace, replay, IsReport, MayStand, MakesAs, MapIsRefused}
 
 -- the cause of a refusal of the file
@@ -88,12 +89,17 @@ WriteCause old new TestsTooLong = ⊥
 WriteCause old new TestsFailed = ⊥
 WriteCause old new (Tests line) = ⊥
 
+-- the line is the first with a fault of the text, which is no tests file
+pub record LinesRefused (p : Program) (file : List ℕ) (line : ℕ) : Type 0 where
+  pub refused : IsRefusedAt p file line
+  pub none : (b : Limits) (all : List Test) (lines : List ℕ) → IsTestsFile p file b all lines → ⊥
+
 -- the cause of a refusal of the tests file of a program
 abbrev pub TestsCause : Program → Option Held → (faults_old faults_new : ℕ) → List ℕ → Refusal → Type 0
 TestsCause p held old new tests TestsMissing = IsMissing held tests
 TestsCause p held old new tests TestsTooLong = IsTooLong tests_limit held tests
 TestsCause p held old new tests TestsFailed = Rose old new
-TestsCause p held old new tests (Tests line) = (file : List ℕ) × ReadTests held tests file × IsRefusedAt p file line
+TestsCause p held old new tests (Tests line) = (file : List ℕ) × ReadTests held tests file × LinesRefused p file line
 TestsCause p held old new tests NoMemory = Unit {0}
 TestsCause p held old new tests (BadWord n) = ⊥
 TestsCause p held old new tests Missing = ⊥

@@ -110,6 +110,7 @@ pub record ReplaysAs (held : Option Held) (bytes entry tests text : List ℕ) (s
   pub all : List Test
   pub lines : List ℕ
   pub holds : IsTestsFile program file bounds all lines
+  pub unrefused : (n : ℕ) → IsRefusedAt program file n → ⊥
   pub written : Written program bounds (length all) all lines text status
 
 -- the text is what is written for the program that the bytes are, with this status
@@ -154,13 +155,14 @@ pub record MapIsRefused (bytes entry : List ℕ) (b : Limits) (map : List ℕ) (
   pub refused : Refused program b map f
   pub none : (h : Input) → IsMap map h → IsInput program b h → ⊥
 
--- the line is the first one with a fault of the tests file
+-- the line is the first one with a fault of the tests file, which holds no tests
 pub record TestsAreRefused (held : Option Held) (bytes entry tests : List ℕ) (line : ℕ) : Type 0 where
   pub program : Program
   pub source : IsProgram bytes entry program
   pub file : List ℕ
   pub read : ReadTests held tests file
   pub refused : IsRefusedAt program file line
+  pub none : (b : Limits) (all : List Test) (lines : List ℕ) → IsTestsFile program file b all lines → ⊥
 
 -- an accepted program is refused for the work, with this text
 abbrev pub RefusesWork : Option Held → (bytes entry : List ℕ) → Work → (text : List ℕ) → Type 0

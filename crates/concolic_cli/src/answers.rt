@@ -145,7 +145,7 @@ pub struct Named<'a> {
 /// The line of a refusal that is not a bad word, with a newline.
 fn line_of(alloc: Global, refusal: Refusal, named: Named<'_>) -> Result<Vec<u8>, NoMemory>
     requires { wants_memory refusal ≡ true }
-    ensures { IfOk result (λ line. line.items ≡ refusal_line (names_in named) refusal) }
+    ensures { IfOk result (λ line. line.items ≡ refusal_line (names_in named.entry) refusal) }
 {
     match refusal {
         Refusal::Missing => file_line(alloc, named.file, "missing"),
@@ -172,7 +172,7 @@ fn refuse_by_line<E: Sink>(
 ) -> Status
     requires memory { wants_memory refusal ≡ true }
     requires status { status ≡ status_of refusal }
-    ensures { IsAnswered (E.written err.old) (E.written err.new) (E.faults err.old) (E.faults err.new) (names_in named) refusal result.0 }
+    ensures { IsAnswered (E.written err.old) (E.written err.new) (E.faults err.old) (E.faults err.new) (names_in named.entry) refusal result.0 }
 {
     match line_of(alloc, refusal, named) {
         Ok(line) => {
@@ -193,7 +193,7 @@ pub fn refuse<E: Sink>(
     named: Named<'_>,
     err: &mut E,
 ) -> Status
-    ensures { IsAnswered (E.written err.old) (E.written err.new) (E.faults err.old) (E.faults err.new) (names_in named) refusal result.0 }
+    ensures { IsAnswered (E.written err.old) (E.written err.new) (E.faults err.old) (E.faults err.new) (names_in named.entry) refusal result.0 }
 {
     match refusal {
         Refusal::BadWord(word) => {

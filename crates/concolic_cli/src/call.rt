@@ -5,6 +5,8 @@ ghost use Rattle.cc_base.specs.declared.inputs.Input.{Input};
 ghost use Rattle.cc_base.specs.Paths.{Path, In};
 ghost use Rattle.cc_model.specs.declared.commands.RunWords.{RunWords};
 ghost use Rattle.cc_model.specs.declared.commands.TraceWords.{TraceWords};
+ghost use Rattle.cc_model.specs.declared.commands.ReplayWords.{ReplayWords};
+ghost use Rattle.replay.specs.Files.{IsRefusedAt};
 ghost use Rattle.cc_model.specs.declared.commands.Command.TheVariants.{Run, Trace, Replay, Make};
 ghost use Rattle.cc_model.specs.Core.{Program};
 ghost use Rattle.cc_model.specs.Report.{newline};
@@ -15,14 +17,14 @@ ghost use Rattle.cc_outside.specs.Held.{Held, file_of};
 ghost use Rattle.input_map.specs.Maps.{IsMap};
 ghost use Rattle.input_map.specs.CellFaults.{Refused};
 ghost use Rattle.input_map.specs.declared.faults.MapFault.{MapFault};
-ghost use Rattle.concolic_cli.specs.Concolic.{HasNoCommand, IsSource, IsSourceOf, Headline, NothingMissedBut, PartStands, SourceIsRefused, MadeIsRefused, FileIsRefused, IsRefusal, Answered};
+ghost use Rattle.concolic_cli.specs.Concolic.{HasNoCommand, IsSource, IsSourceOf, HoldsFile, HoldsSome, Headline, NothingMissedBut, PartStands, SourceIsRefused, MadeIsRefused, FileIsRefused, IsRefusal, Answered};
 ghost use Rattle.concolic_cli.specs.Listings.{IsEasy, HoldsPaths, room};
 ghost use Rattle.concolic_cli.specs.Made.{made_source, made_entry};
 ghost use Rattle.concolic_cli.specs.Named.{names_in};
 ghost use Rattle.concolic_cli.specs.Refusals.{bad_word_text, Says};
 ghost use Rattle.concolic_cli.specs.Session.{Wrote, WroteLast};
 ghost use Rattle.concolic_cli.specs.Sources.{Refuses};
-ghost use Rattle.concolic_cli.specs.Tasks.{Task, Asks, IsAfter, word_of, list_task, trace_task};
+ghost use Rattle.concolic_cli.specs.Tasks.{Task, Asks, IsAfter, word_of, list_task, trace_task, replay_task};
 ghost use Rattle.command_words.specs.Words.{texts, Accepted, BadWord};
 
 use crate::answers::{Named, Status, refuse};
@@ -279,9 +281,13 @@ pub fn concolic<F: Files, K: Sink, E: Sink>(
     ensures traced { (trace : TraceWords) → Accepted (texts words.now) (Trace trace) → result.0 ≤ 1
         → Wrote (F.held files.old) (K.written out.old) (K.written out.new) (trace_task (texts words.now) trace) result.0 }
 
+    // `replay`, 0 and 8: whether each test of the file is real was written, or which is the first that isn't.
+    ensures replayed { (replay : ReplayWords) → Accepted (texts words.now) (Replay replay) → In result.0 (0 ∷ 8 ∷ [])
+        → Wrote (F.held files.old) (K.written out.old) (K.written out.new) (replay_task (texts words.now) replay) result.0 }
+
     // `make`, 0: the last line of a listing of the made source was written.
     ensures made { (n : ℕ) → Accepted (texts words.now) (Make n) → result.0 ≡ 0 → WroteLast n (K.written out.old) (K.written out.new) }
-    ensures quiet { In result.0 (0 ∷ 1 ∷ 10 ∷ 11 ∷ []) → E.written err.new ≡ E.written err.old }
+    ensures quiet { In result.0 (0 ∷ 1 ∷ 8 ∷ 10 ∷ 11 ∷ []) → E.written err.new ≡ E.written err.old }
 
     // They come where nothing is refused and nothing fails, unless memory is wanting.
     ensures answers_run { (run : RunWords) (after : Option Path) (bytes : List ℕ) (p : Program) → Accepted (texts words.now) (Run run)
@@ -295,6 +301,12 @@ pub fn concolic<F: Files, K: Sink, E: Sink>(
         → IsSourceOf bytes (word_of (texts words.now) trace.entry) (λ p. IsInput p trace.bounds h)
         → (Rose (F.faults files.old) (F.faults files.new) → ⊥) → (Rose (K.faults out.old) (K.faults out.new) → ⊥)
         → In result.0 (0 ∷ 1 ∷ 7 ∷ []) }
+    ensures answers_replay { (replay : ReplayWords) (bytes file : List ℕ) → Accepted (texts words.now) (Replay replay)
+        → IsSource (replay_task (texts words.now) replay) (F.held files.old) bytes
+        → HoldsFile (F.held files.old) (word_of (texts words.now) replay.tests) file
+        → IsSourceOf bytes (word_of (texts words.now) replay.entry) (λ p. HoldsSome p file)
+        → (Rose (F.faults files.old) (F.faults files.new) → ⊥) → (Rose (K.faults out.old) (K.faults out.new) → ⊥)
+        → In result.0 (0 ∷ 7 ∷ 8 ∷ []) }
     ensures answers_make { (n : ℕ) → Accepted (texts words.now) (Make n)
         → (Rose (K.faults out.old) (K.faults out.new) → ⊥) → In result.0 (0 ∷ 3 ∷ 7 ∷ []) }
 
@@ -312,7 +324,7 @@ pub fn concolic<F: Files, K: Sink, E: Sink>(
     ensures bad_word { result.0 ≡ 2 → (n : ℕ) × BadWord (texts words.now) n
         × Says (E.written err.old) (E.written err.new) (E.faults err.old) (E.faults err.new) (bad_word_text n ++ newline) }
 
-    // 3: exactly where the source is refused, or for `trace` the map is; the text is that of the first of these.
+    // 3: exactly where the source is refused, or for `trace` the map is, or for `replay` the tests file; the text is that of the first of these.
     ensures source_refused { result.0 ≡ 3
         → SourceIsRefused (texts words.now) (F.held files.old) (E.written err.old) (E.written err.new) (E.faults err.old) (E.faults err.new)
         ⊎ MadeIsRefused (texts words.now) (E.written err.old) (E.written err.new) (E.faults err.old) (E.faults err.new) }
@@ -321,6 +333,11 @@ pub fn concolic<F: Files, K: Sink, E: Sink>(
     ensures refused_map { (trace : TraceWords) (bytes : List ℕ) (f : MapFault) → Accepted (texts words.now) (Trace trace)
         → IsSource (trace_task (texts words.now) trace) (F.held files.old) bytes
         → IsSourceOf bytes (word_of (texts words.now) trace.entry) (λ p. Refused p trace.bounds (word_of (texts words.now) trace.map) f)
+        → IsRefusal (F.faults files.old) (F.faults files.new) result.0 }
+    ensures refused_tests { (replay : ReplayWords) (bytes file : List ℕ) (line : ℕ) → Accepted (texts words.now) (Replay replay)
+        → IsSource (replay_task (texts words.now) replay) (F.held files.old) bytes
+        → HoldsFile (F.held files.old) (word_of (texts words.now) replay.tests) file
+        → IsSourceOf bytes (word_of (texts words.now) replay.entry) (λ p. IsRefusedAt p file line)
         → IsRefusal (F.faults files.old) (F.faults files.new) result.0 }
     ensures refused_make { (n : ℕ) (text : List ℕ) → Accepted (texts words.now) (Make n) → Refuses (made_source n) made_entry text
         → (result.0 ≡ 3) ⊎ (result.0 ≡ 7) }
@@ -341,8 +358,9 @@ pub fn concolic<F: Files, K: Sink, E: Sink>(
     ensures stands { (result.0 ≡ 5) ⊎ (result.0 ≡ 7) → PartStands (texts words.now) (F.held files.old) (K.written out.old) (K.written out.new) }
     ensures silent { 2 ≤ result.0 → result.0 ≤ 4 → K.written out.new ≡ K.written out.old }
 
-    // No other status comes, and 10 and 11 for `run` alone.
-    ensures statuses { In result.0 (0 ∷ 1 ∷ 2 ∷ 3 ∷ 4 ∷ 5 ∷ 7 ∷ 10 ∷ 11 ∷ []) }
+    // No other status comes, 8 for `replay` alone, and 10 and 11 for `run` alone.
+    ensures statuses { In result.0 (0 ∷ 1 ∷ 2 ∷ 3 ∷ 4 ∷ 5 ∷ 7 ∷ 8 ∷ 10 ∷ 11 ∷ []) }
+    ensures replay_alone { result.0 ≡ 8 → (replay : ReplayWords) × Accepted (texts words.now) (Replay replay) }
     ensures run_alone { 10 ≤ result.0 → (run : RunWords) × Accepted (texts words.now) (Run run) }
 
     // A call leaves the files as they were.

@@ -6,10 +6,10 @@ ghost use Rattle.cc_base.specs.Paths.{path_text};
 ghost use Rattle.cc_model.specs.CheckedProgram.{core_of};
 ghost use Rattle.cc_model.specs.Graphs.{PointsToCells};
 ghost use Rattle.cc_model.specs.Runs.{params_of};
-ghost use Rattle.replay.specs.Files.{IsTestsFile};
+ghost use Rattle.replay.specs.Files.{IsTestsFile, IsRefusedAt};
 ghost use Rattle.replay.specs.ReplayText.{Written, replayed_line, differs_line};
 ghost use Rattle.concolic_cli.specs.Compiling.{Compiles};
-ghost use Rattle.concolic_cli.specs.Replaying.{AreWithin, DiffersFirst, LinesRefused, WroteReplay, ReplayCause};
+ghost use Rattle.concolic_cli.specs.Replaying.{AreWithin, DiffersFirst, TextRefused, WroteReplay, ReplayCause};
 
 use crate::answers::Status;
 use crate::lines::write_line;
@@ -26,7 +26,8 @@ use std::alloc::Global;
 pub fn tests_in(alloc: Global, text: &[u8], checked: &Checked) -> Result<Tests, Refusal>
     requires { length text.now ≤ 16777216 }
     ensures read { IfOk result (λ t. IsTestsFile (core_of checked.now) text.now t.bounds t.tests t.lines) }
-    ensures refused { IfErr result (λ e. LinesRefused (core_of checked.now) text.now e) }
+    ensures unrefused { IfOk result (λ t. (n : ℕ) → IsRefusedAt (core_of checked.now) text.now n → ⊥) }
+    ensures refused { IfErr result (λ e. TextRefused (core_of checked.now) text.now e) }
 {
     match read_tests(alloc, text, checked) {
         Ok(tests) => Ok(tests),

@@ -9,3 +9,4 @@ pub mod NamedLaws
 pub mod BoundsLaws
 pub mod BeforeLaws
 pub mod WholeFile
+pub mod HeldTests

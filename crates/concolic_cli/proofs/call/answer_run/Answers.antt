@@ -1,5 +1,6 @@
 use Rattle.std.proofs.Common.{refl, sym, subst}
 use Rattle.concolic_cli.specs.Tasks.{IsPathOf, asks_list, list_task}
+use Rattle.concolic_cli.specs.Named.{names_in}
 use Rattle.concolic_cli.proofs.Calls.{done_call, refused_call}
 use Rattle.concolic_cli.proofs.call.answer_run.Goals as goal
 
@@ -14,4 +15,4 @@ returns-in-Ok-clause-answered g c =
 pub returns-in-Err-clause-answered : goal.returns-in-Err-clause-answered
 returns-in-Err-clause-answered g c =
     let f = c.word-file.ensures in let e = c.word-entry.ensures in let a = c.requires.after in
-    refused_call _ _ c.in-Err.refusal _ (list_task _ c.args.run.now a.0) (cc (f, e)) (asks_list c.args.run.now a.0 c.requires.accepted a.1) (c.in-Err.ensures.ends a.0 (subst (λ w. IsPathOf w a.0) (sym c.word_if-after.ensures) a.1)) c.refuse.ensures
+    refused_call _ _ c.in-Err.refusal _ (list_task _ c.args.run.now a.0) (cc (f, e)) (asks_list c.args.run.now a.0 c.requires.accepted a.1) (c.in-Err.ensures.ends a.0 (subst (λ w. IsPathOf w a.0) (sym c.word_if-after.ensures) a.1)) (names_in c.named.result) c.named.ensures c.refuse.ensures

@@ -77,3 +77,15 @@ returns-clause-missing_file g c = λ task h a told. promise.missing_file _ _ c.o
 
 pub returns-clause-too_long_file : goal.returns-clause-too_long_file
 returns-clause-too_long_file g c = λ task h b a told. promise.too_long_file _ _ c.one_command.ensures (ending _ _ c.answer.ensures.answered) task a h told b
+
+pub returns-clause-replayed : goal.returns-clause-replayed
+returns-clause-replayed g c = λ words. promise.replayed _ _ c.one_command.ensures (ending _ _ c.answer.ensures.answered) words
+
+pub returns-clause-replay_alone : goal.returns-clause-replay_alone
+returns-clause-replay_alone g c = promise.replay_alone _ _ c.one_command.ensures (ending _ _ c.answer.ensures.answered)
+
+pub returns-clause-answers_replay : goal.returns-clause-answers_replay
+returns-clause-answers_replay g c = λ r bytes file a i h. promise.answers_replay _ _ c.one_command.ensures (ending _ _ c.answer.ensures.answered) c.one_program.ensures r bytes file a i h
+
+pub returns-clause-refused_tests : goal.returns-clause-refused_tests
+returns-clause-refused_tests g c = λ r bytes file line a i h. promise.refused_tests _ _ c.one_command.ensures (ending _ _ c.answer.ensures.answered) c.one_program.ensures r bytes file a i h line
