@@ -4,6 +4,7 @@ mod TraceLines
 mod Searches
 mod Written
 mod ReplayLaws
+mod Replays
 mod Sessions
 mod MadeText
 mod Causes

@@ -1,5 +1,5 @@
 -- The line that is written of tests.
-use Rattle.std.proofs.Common.{◌≡◌, ℕ, zero, suc, ◌+◌, ◌<◌, ◌≤◌, ◌⊎◌, inl, inr, List, [], ◌∷◌, length, Option, Some, None, refl, sym, ap, subst, ◌∙◌, arith, slice_get, get_or}
+use Rattle.std.proofs.Common.{◌≡◌, ℕ, zero, suc, ◌+◌, ◌<◌, ◌≤◌, ◌⊎◌, inl, inr, List, [], ◌∷◌, length, Option, Some, None, refl, sym, ap, subst, ◌∙◌, arith, slice_get, get_or, Result, Err}
 use native.Mathlib.Decide.{ℕ_discrete}
 use Rattle.cc_base.specs.declared.inputs.Test.{Test}
 use Rattle.cc_base.specs.Limits.{Limits}
@@ -8,6 +8,10 @@ use Rattle.cc_model.specs.Core.{Program}
 use Rattle.cc_model.specs.Runs.{IsInput, path_at, end_at}
 use Rattle.cc_model.specs.Tested.{Real, tested}
 use Rattle.replay.specs.ReplayText.{Written, all_real, one_real, one_differs, replayed_line, differs_line}
+use Rattle.replay.specs.declared.faults.TestsFault.{TestsFault}
+use Rattle.replay.specs.declared.faults.TestsFault.TheVariants as fault
+use Rattle.replay.specs.declared.tests_file.Tests.{Tests}
+use Rattle.replay.specs.Files.{IsFileOrNoMemory}
 use Rattle.concolic_cli.specs.declared.replaying.Difference.{Difference}
 use Rattle.concolic_cli.specs.Replaying.{AreReal, AreWithin, IsFirstDifference, DiffersFirst}
 
@@ -56,3 +60,15 @@ module _ (p : Program) (b : Limits) where
   line_at [] n x d h e = absurd (omega (arith, h))
   line_at (u ∷ lines) zero x d h e = ap Some (sym e)
   line_at (u ∷ lines) (suc n) x d h e = line_at lines n x d (omega (arith, h)) e
+
+pub below : {A : Type 0} (l : List A) (n : ℕ) (x : A) → slice_get l n ≡ Some x → n < length l
+below [] n x e = absurd (cc e)
+below (y ∷ l) zero x e = omega arith
+below (y ∷ l) (suc n) x e = let h = below l n x e in omega (arith, h)
+
+-- a refused line is that of no tests file
+pub not_file : (r : Result Tests TestsFault) (n : ℕ) (b : Limits) (all : List Test) (lines : List ℕ) → r ≡ Err (fault.Line n) → IsFileOrNoMemory r b all lines → ⊥
+not_file r n b all lines e h = by_fault (subst (λ x. IsFileOrNoMemory x b all lines) e h)
+  where
+    by_fault : fault.Line n ≡ fault.NoMemory → ⊥
+    by_fault f = cc f

@@ -1,7 +1,8 @@
 -- What comes of the tests of a file, while they are replayed.
-use Rattle.std.specs.Prelude.{ℕ, ◌≡◌, ◌<◌, ◌⊎◌, List, length, Option, Some, None, slice_get}
+use Rattle.std.specs.Prelude.{ℕ, ◌≡◌, ◌<◌, ◌⊎◌, List, length, Option, Some, None, slice_get, All}
 use Rattle.cc_base.specs.declared.inputs.Test.{Test}
 use Rattle.cc_base.specs.Limits.{Limits}
+use Rattle.cc_base.specs.Outcomes.{HasByte}
 use Rattle.cc_model.specs.Core.{Program}
 use Rattle.cc_model.specs.Runs.{IsInput, path_at, end_at}
 use Rattle.cc_model.specs.Tested.{Real, tested}
@@ -26,6 +27,7 @@ pub record IsFirstDifference (p : Program) (b : Limits) (tests : List Test) (d :
   pub differs : Real (tested p b) test → ⊥
   pub path : d.path ≡ path_at p b test.input
   pub end : d.end ≡ end_at p b test.input
+  pub bytes : All HasByte d.path
 
 -- all tests are real, or this is the first that isn't
 abbrev pub DiffersFirst : Program → Limits → List Test → Option Difference → Type 0

@@ -26,6 +26,7 @@ const SOURCE_LIMIT: usize = 1_048_576;
 fn read_source<F: Files>(alloc: Global, files: &mut F, file: &str) -> Result<Vec<u8>, Refusal>
     ensures read { IfOk result (λ v. ReadAs (F.held files.old) file.now v.items) }
     ensures file_refused { IfErr result (λ e. FileCause (F.held files.old) (F.faults files.old) (F.faults files.new) file.now e) }
+    ensures never_falls { F.faults files.old ≤ F.faults files.new }
     ensures held { F.held files.new ≡ F.held files.old }
 {
     match files.load(alloc, file, SOURCE_LIMIT) {

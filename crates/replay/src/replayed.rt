@@ -7,7 +7,7 @@ ghost use Rattle.cc_model.specs.Graphs.{PointsToCells};
 ghost use Rattle.cc_model.specs.Runs.{params_of, IsInput};
 ghost use Rattle.tac_lower.specs.Finished.{first_in};
 ghost use Rattle.tac_lower.specs.Seen.{seen};
-ghost use Rattle.replay.specs.Replays.{Replays};
+ghost use Rattle.replay.specs.Replays.{Replays, HasBytes};
 
 use cc_model::Checked;
 use cc_model::base::{Bounds, End, NoMemory, Outcome, PathText, Test};
@@ -67,7 +67,8 @@ pub fn replay_test(
     requires compiles { Compiles (core_of checked.now) (map (seen checked.now) tac.now.code) (λ f. first_in tac.now f) }
     requires points { PointsToCells (core_of checked.now).layouts (params_of (core_of checked.now)) }
     requires input { IsInput (core_of checked.now) bounds.now test.now.input }
-    ensures { IfOk result (λ r. Replays (core_of checked.now) bounds.now test.now r) }
+    ensures told { IfOk result (λ r. Replays (core_of checked.now) bounds.now test.now r) }
+    ensures bytes { IfOk result (λ r. HasBytes r) }
 {
     let trace = run(alloc, checked, tac, &test.input, bounds)?;
     let path = trace.path(alloc)?;

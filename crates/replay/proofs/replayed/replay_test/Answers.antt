@@ -1,11 +1,12 @@
-use Rattle.std.proofs.Common.{◌≡◌, ◌∙◌, sym}
+use Rattle.std.proofs.Common.{◌≡◌, ◌∙◌, sym, subst, All}
+use Rattle.cc_base.specs.Outcomes.{HasByte}
 use Rattle.cc_model.specs.CheckedProgram.{core_of}
 use Rattle.cc_model.specs.Runs.{path_at, end_at}
 use Rattle.replay.proofs.replayed.replay_test.Goals as goal
 use Rattle.replay.proofs.replayed.replay_test.Goals.{then-is_same_path, else-is_same_path}
 
-pub returns-then-is_real : goal.returns-then-is_real
-returns-then-is_real c =
+pub returns-then-is_real-clause-told : goal.returns-then-is_real-clause-told
+returns-then-is_real-clause-told c =
     let p : c.in_ok-path.path ≡ path_at (core_of c.args.checked.now) c.args.bounds.now (c.args.test.now).input = c.in_ok-path.ensures.path c.args.checked.now c.args.bounds.now (c.args.test.now).input c.in_ok-trace.ensures.trace in
     let e : c.in_ok-trace.trace.end ≡ end_at (core_of c.args.checked.now) c.args.bounds.now (c.args.test.now).input = c.in_ok-trace.ensures.end_of_run in
     elim c.if-is_same_path.branch [
@@ -17,8 +18,8 @@ returns-then-is_real c =
       | else-is_same_path w ↦ absurd (cc (w.if-is_same_path.false, w.is_real-is, c.if-is_real.true))
     ]
 
-pub returns : goal.returns
-returns c =
+pub returns-clause-told : goal.returns-clause-told
+returns-clause-told c =
     let p : c.in_ok-path.path ≡ path_at (core_of c.args.checked.now) c.args.bounds.now (c.args.test.now).input = c.in_ok-path.ensures.path c.args.checked.now c.args.bounds.now (c.args.test.now).input c.in_ok-trace.ensures.trace in
     let e : c.in_ok-trace.trace.end ≡ end_at (core_of c.args.checked.now) c.args.bounds.now (c.args.test.now).input = c.in_ok-trace.ensures.end_of_run in (
       (λ r. elim c.if-is_same_path.branch [
@@ -28,3 +29,6 @@ returns c =
       p,
       e,
     )
+
+pub returns-clause-bytes : goal.returns-clause-bytes
+returns-clause-bytes c = subst (All HasByte) (sym c.in_ok-path.ensures.outcomes) c.in_ok-trace.ensures.bytes
