@@ -49,7 +49,7 @@ module _ (p : Program) (b : Limits) where
   one_written total (u ∷ tests) (m ∷ lines) (suc k) n t e f h d =
       one_real u tests m lines _ 8 (h 0 u (omega arith) refl) (one_written total tests lines k n t e f (later u tests k h) d)
 
--- ---- as the code finds it
+  -- ---- as the code finds it
 
   pub at_place : (tests : List Test) (n : ℕ) (x t : Test) → n < length tests → x ≡ get_or tests n t → slice_get tests n ≡ Some x
   at_place [] n x t h e = absurd (omega (arith, h))

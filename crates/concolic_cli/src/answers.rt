@@ -187,12 +187,7 @@ fn refuse_by_line<E: Sink>(
 }
 
 /// Says why a call is refused, and answers its status.
-pub fn refuse<E: Sink>(
-    alloc: Global,
-    refusal: Refusal,
-    named: Named<'_>,
-    err: &mut E,
-) -> Status
+pub fn refuse<E: Sink>(alloc: Global, refusal: Refusal, named: Named<'_>, err: &mut E) -> Status
     ensures { IsAnswered (E.written err.old) (E.written err.new) (E.faults err.old) (E.faults err.new) (names_in named.entry) refusal result.0 }
 {
     match refusal {
