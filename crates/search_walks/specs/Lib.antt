@@ -1,5 +1,0 @@
-pub mod Draws
-pub mod Distance
-pub mod Setting
-pub mod Walks
-pub mod Output
