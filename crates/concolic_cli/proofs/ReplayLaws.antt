@@ -1,19 +1,17 @@
 -- The line that is written of tests.
-use Rattle.std.proofs.Common.{◌≡◌, ℕ, zero, suc, ◌+◌, ◌<◌, ◌≤◌, ◌⊎◌, inl, inr, List, [], ◌∷◌, length, Option, Some, None, refl, sym, ap, subst, ◌∙◌, arith, slice_get, get_or, Result, Err}
+use Rattle.std.proofs.Common.{◌≡◌, ℕ, zero, suc, ◌+◌, ◌<◌, ◌⊎◌, inl, inr, List, [], ◌∷◌, length, Some, refl, sym, ap, subst, arith, slice_get, get_or, Result, Err}
 use native.Mathlib.Decide.{ℕ_discrete}
 use Rattle.cc_base.specs.declared.inputs.Test.{Test}
 use Rattle.cc_base.specs.Limits.{Limits}
-use Rattle.cc_base.specs.Outcomes.{HasByte}
 use Rattle.cc_model.specs.Core.{Program}
-use Rattle.cc_model.specs.Runs.{IsInput, path_at, end_at}
+use Rattle.cc_model.specs.Runs.{path_at, end_at}
 use Rattle.cc_model.specs.Tested.{Real, tested}
 use Rattle.replay.specs.ReplayText.{Written, all_real, one_real, one_differs, replayed_line, differs_line}
 use Rattle.replay.specs.declared.faults.TestsFault.{TestsFault}
 use Rattle.replay.specs.declared.faults.TestsFault.TheVariants as fault
 use Rattle.replay.specs.declared.tests_file.Tests.{Tests}
 use Rattle.replay.specs.Files.{IsFileOrNoMemory}
-use Rattle.concolic_cli.specs.declared.replaying.Difference.{Difference}
-use Rattle.concolic_cli.specs.Replaying.{AreReal, AreWithin, IsFirstDifference, DiffersFirst}
+use Rattle.concolic_cli.specs.Replaying.{AreReal}
 
 module _ (p : Program) (b : Limits) where
   -- ---- the line that is written

@@ -1,5 +1,5 @@
 -- What a session that replays comes to.
-use Rattle.std.proofs.Common.{◌≡◌, ℕ, ◌≤◌, ◌⊎◌, inl, inr, List, length, Option, refl, sym, subst, arith}
+use Rattle.std.proofs.Common.{◌≡◌, ℕ, ◌≤◌, inl, inr, List, Option, refl, subst, arith}
 use Rattle.cc_model.specs.CheckedProgram.{core_of}
 use Rattle.cc_model.specs.Core.{Program}
 use Rattle.cc_model.specs.Source.{IsProgram}

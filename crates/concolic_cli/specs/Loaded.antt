@@ -1,6 +1,5 @@
 -- The bytes of files, as they are read. The limits are this project's own.
 use Rattle.std.specs.Prelude.{ℕ, ◌≡◌, ◌<◌, ◌≤◌, List, length, Option, Some, None}
-use Rattle.cc_outside.specs.Faults.{Rose}
 use Rattle.cc_outside.specs.Held.{Held, file_of}
 
 -- how many bytes a source and a tests file may have

@@ -1,9 +1,9 @@
 -- What a session comes to.
-use Rattle.std.specs.Prelude.{ℕ, ◌≡◌, ◌<◌, ◌≤◌, List, length, Option, Some, None, Result, Ok, Err}
+use Rattle.std.specs.Prelude.{ℕ, ◌≡◌, List, Option, Result, Ok, Err}
 use Rattle.cc_base.specs.Limits.{Limits}
 use Rattle.cc_model.specs.Core.{Program}
 use Rattle.cc_outside.specs.Faults.{Rose}
-use Rattle.cc_outside.specs.Held.{Held, file_of}
+use Rattle.cc_outside.specs.Held.{Held}
 use Rattle.cc_outside.specs.Told.{appended, WritesPart}
 use Rattle.input_map.specs.declared.faults.MapFault.{MapFault}
 use Rattle.input_map.specs.CellFaults.{Refused}

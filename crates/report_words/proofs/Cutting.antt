@@ -79,7 +79,7 @@ cut_by m b t false e n f h k =
     let r = k (omega (arith, z, h)) in
     let d : suc (first_at m t) + 1 ≡ suc (first_at m t + 1) = omega arith in
     subst (λ i. CutFirst m (b ∷ t) (take i (b ∷ t)) (drop (i + 1) (b ∷ t))) (sym z)
-        (record { is = ap (λ (l : List ℕ). b ∷ l) r.is ∙ ap (λ i. b ∷ take (first_at m t) t ++ m ∷ drop i (b ∷ t)) (sym d); first = ((λ s. differ b m e s), r.first) })
+    (record { is = ap (λ (l : List ℕ). b ∷ l) r.is ∙ ap (λ i. b ∷ take (first_at m t) t ++ m ∷ drop i (b ∷ t)) (sym d); first = ((λ s. differ b m e s), r.first) })
 
 cut_at : (m : ℕ) (t : List ℕ) → first_at m t < length t → CutFirst m t (take (first_at m t) t) (drop (first_at m t + 1) t)
 cut_at m [] h = absurd (omega (arith, h))

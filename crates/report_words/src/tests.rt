@@ -25,7 +25,10 @@ fn numbers(rt: HostRuntime) {
 fn ends(rt: HostRuntime) {
     assert_eq!(rt; end_of(b"return"), Some(End::Return));
     assert_eq!(rt; end_of(b"steps"), Some(End::Steps));
-    assert_eq!(rt; end_of(b"null@4294967295"), Some(End::Fault(FaultKind::Null, u32::MAX)));
+    assert_eq!(rt;
+        end_of(b"null@4294967295"),
+        Some(End::Fault(FaultKind::Null, u32::MAX))
+    );
     assert_eq!(rt; end_of(b"null@4294967296"), None);
     assert_eq!(rt; end_of(b"null"), None);
     assert_eq!(rt; end_of(b"return@1"), None);

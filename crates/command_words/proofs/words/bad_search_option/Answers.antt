@@ -1,4 +1,4 @@
-use Rattle.command_words.specs.Words.{texts, search_options}
+use Rattle.command_words.specs.Words.{search_options}
 use Rattle.command_words.proofs.OptionReads.{some_by, none_by}
 use Rattle.command_words.proofs.OptionTables.{search_table, fits_nothing}
 use Rattle.command_words.proofs.words.bad_search_option.Goals as goal

@@ -1,4 +1,4 @@
-use Rattle.command_words.specs.Words.{texts, walk_options}
+use Rattle.command_words.specs.Words.{walk_options}
 use Rattle.command_words.proofs.OptionReads.{some_by, none_by}
 use Rattle.command_words.proofs.OptionTables.{walk_table, fits_nothing}
 use Rattle.command_words.proofs.words.bad_walk_option.Goals as goal

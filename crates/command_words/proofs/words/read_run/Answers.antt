@@ -1,6 +1,5 @@
 -- What each word that is read, and the first that isn't, say of the list.
 use Rattle.std.proofs.Common.{sym, subst, refl, codes, pos, arith, ◌∷◌}
-use Rattle.command_words.specs.declared.words.Takes.TheVariants.{PathText}
 use Rattle.command_words.specs.Words.{texts, IsNumber, IsSeed, Accepted, run_words, run_options, solver_option}
 use Rattle.command_words.proofs.OptionFits.{option_given}
 use Rattle.command_words.proofs.OptionTables.{run_table, run_short, has_bounds, has_seed, has_path, solver_there, given_natural}

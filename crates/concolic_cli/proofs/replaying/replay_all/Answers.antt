@@ -1,4 +1,4 @@
-use Rattle.std.proofs.Common.{◌≡◌, ◌<◌, ◌≤◌, ◌∙◌, length, sym, ap, subst, arith, refl, get_or, Option, Some, slice_get}
+use Rattle.std.proofs.Common.{◌≡◌, ◌∙◌, length, sym, ap, subst, arith, refl, get_or, Option, Some, slice_get}
 use Rattle.cc_model.specs.CheckedProgram.{core_of}
 use Rattle.cc_model.specs.Runs.{path_at, end_at}
 use Rattle.replay.specs.ReplayText.{Written, replayed_line, differs_line}

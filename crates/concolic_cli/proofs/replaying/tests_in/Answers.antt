@@ -1,4 +1,4 @@
-use Rattle.std.proofs.Common.{subst, ◌∙◌, sym, ap, inl, inr, Err}
+use Rattle.std.proofs.Common.{subst, ◌∙◌, ap, Err}
 use Rattle.cc_model.specs.CheckedProgram.{core_of}
 use Rattle.replay.specs.Files.{Refused}
 use Rattle.concolic_cli.proofs.ReplayLaws.{not_file}
