@@ -253,12 +253,14 @@ fn answer<F: Files, K: Sink, E: Sink>(
 }
 
 /// Does what the words of the command line ask: reads the file of a source, and either lists the paths of its tested
-/// function and writes the report, or runs that function on one input and writes what the run does; or lists the paths of a
-/// source that it makes, and writes the last line. Where it refuses, it says why in one line to `err`.
+/// function and writes the report, or runs that function on one input and writes what the run does, or runs it on the inputs
+/// of a tests file and writes whether each test is real; or lists the paths of a source that it makes, and writes the last
+/// line. Where it refuses, it says why in one line to `err`.
 ///
-/// The statuses: 0 and 1 a complete listing or a run, 1 where a listed test or the run ends as a fault, 0 for `make`; 2 the words
-/// are no command; 3 the source or the map is refused; 4 the file is; 5 the output failed; 7 want of memory, the one answer that
-/// nothing else explains; 10 and 11 an incomplete listing, 11 where a test or stray run ends as a fault.
+/// The statuses: 0 and 1 a complete listing or a run, 1 where a listed test or the run ends as a fault, 0 for `make` and for a
+/// replay of real tests; 2 the words are no command; 3 the source, the map or the tests file is refused; 4 a file can't be read;
+/// 5 the output failed; 7 want of memory, the one answer that nothing else explains; 8 a test of the file isn't real; 10 and 11
+/// an incomplete listing, 11 where a test or stray run ends as a fault.
 pub fn concolic<F: Files, K: Sink, E: Sink>(
     alloc: Global,
     words: &[String],
