@@ -1,7 +1,7 @@
 //! Tests files, each with one fault, on a program with `struct cell { int v; struct cell *next; }` and a function of two
 //! pointers to it.
 
-use crate::{TestFault, TestsFault, read_test, read_tests};
+use crate::{TestFault, Tests, TestsFault, read_test, read_tests};
 use cc_model::base::{Bounds, CellTy, NoMemory, TyId};
 use cc_model::checked::Layout;
 use cc_model::trees::{Base, Item, Param, Program, ResultType, TypeName};
@@ -182,11 +182,19 @@ fn joined(alloc: Global, texts: &[&str]) -> Result<Vec<u8>, NoMemory> {
     Ok(all)
 }
 
+/// What a text of these tests holds; none of them is too long.
+fn read(alloc: Global, text: &[u8], checked: &Checked) -> Result<Tests, TestsFault> {
+    if text.len() > 16_777_216 {
+        return Err(TestsFault::NoMemory);
+    }
+    read_tests(alloc, text, checked)
+}
+
 #[test]
 fn every_form_is_read(rt: HostRuntime) -> Result<(), NoMemory> {
     let checked = program(rt.alloc())?;
     let text = joined(rt.alloc(), &[FIRST, LINES])?;
-    let Ok(tests) = read_tests(rt.alloc(), &text, &checked) else {
+    let Ok(tests) = read(rt.alloc(), &text, &checked) else {
         assert!(rt; false);
         return Ok(());
     };
@@ -204,8 +212,8 @@ fn each_fault_is_refused(rt: HostRuntime) -> Result<(), NoMemory> {
     let checked = program(rt.alloc())?;
     for line in FAULTS.lines() {
         let text = joined(rt.alloc(), &[FIRST, "replayed 6\n", line, "\nreplayed x\n"])?;
-        let read = read_tests(rt.alloc(), &text, &checked);
-        assert!(rt; matches!(read, Err(TestsFault::Line(3))));
+        let answer = read(rt.alloc(), &text, &checked);
+        assert!(rt; matches!(answer, Err(TestsFault::Line(3))));
     }
     Ok(())
 }
@@ -215,8 +223,8 @@ fn each_fault_of_the_first_line_is_refused(rt: HostRuntime) -> Result<(), NoMemo
     let checked = program(rt.alloc())?;
     for line in FIRST_FAULTS.lines() {
         let text = joined(rt.alloc(), &[line, "\nreplayed x\n"])?;
-        let read = read_tests(rt.alloc(), &text, &checked);
-        assert!(rt; matches!(read, Err(TestsFault::Line(1))));
+        let answer = read(rt.alloc(), &text, &checked);
+        assert!(rt; matches!(answer, Err(TestsFault::Line(1))));
     }
     Ok(())
 }
@@ -224,19 +232,14 @@ fn each_fault_of_the_first_line_is_refused(rt: HostRuntime) -> Result<(), NoMemo
 #[test]
 fn ends_of_files(rt: HostRuntime) -> Result<(), NoMemory> {
     let checked = program(rt.alloc())?;
-    let whole = read_tests(rt.alloc(), FIRST.as_bytes(), &checked);
+    let whole = read(rt.alloc(), FIRST.as_bytes(), &checked);
     assert!(rt; whole.is_ok());
-    let empty = read_tests(rt.alloc(), b"", &checked);
+    let empty = read(rt.alloc(), b"", &checked);
     assert!(rt; matches!(empty, Err(TestsFault::Line(1))));
-    let cut = read_tests(rt.alloc(), FIRST[..FIRST.len() - 1].as_bytes(), &checked);
+    let cut = read(rt.alloc(), FIRST[..FIRST.len() - 1].as_bytes(), &checked);
     assert!(rt; matches!(cut, Err(TestsFault::Line(1))));
     let text = joined(rt.alloc(), &[FIRST, "replayed 6"])?;
-    assert!(rt;
-        matches!(
-            read_tests(rt.alloc(), &text, &checked),
-            Err(TestsFault::Line(2))
-        )
-    );
+    assert!(rt; matches!(read(rt.alloc(), &text, &checked), Err(TestsFault::Line(2))));
     Ok(())
 }
 
