@@ -20,3 +20,6 @@ pub mod Built
 pub mod Indexed
 pub mod Filled
 pub mod Steps
+pub mod Threes
+pub mod MapLacks
+pub mod ReadLaws

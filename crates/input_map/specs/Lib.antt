@@ -6,3 +6,4 @@ pub mod Commas
 pub mod Standing
 pub mod Builds
 pub mod Laying
+pub mod TestTexts

@@ -1,7 +1,8 @@
-//! Why a text is not the map text of an input.
+//! Why a text is not the map text of an input, or that of a test.
 
 ghost use Rattle.std.specs.Prelude.{◌≡◌};
 ghost use Rattle.input_map.specs.declared.faults.MapFault.TheVariants as fault;
+ghost use Rattle.input_map.specs.declared.faults.TestFault.TheVariants as test_fault;
 
 use cc_model::base::NoMemory;
 use std::alloc::{AllocError, AllocFailed};
@@ -57,5 +58,27 @@ impl From<NoMemory> for MapFault {
 
     fn from(_: NoMemory) -> Self {
         MapFault::NoMemory
+    }
+}
+
+/// Why a text is not that of a test.
+#[derive(Clone, Copy, Debug, PartialEq, Eq, Error)]
+pub enum TestFault {
+    /// The text is not three words, the text of a path, the text of an end and another.
+    #[error("it is no path, end and input")]
+    Form,
+    /// The third word is not the map text of an input within bounds. The fault is never want of memory.
+    #[error("the input: {0}")]
+    Map(MapFault),
+    /// Memory ran out.
+    #[error("out of memory")]
+    NoMemory,
+}
+
+impl From<NoMemory> for TestFault {
+    ghost from_gives = { λ _ f. f ≡ test_fault.NoMemory };
+
+    fn from(_: NoMemory) -> Self {
+        TestFault::NoMemory
     }
 }

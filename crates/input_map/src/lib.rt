@@ -8,13 +8,15 @@ mod faults;
 mod maps;
 mod params;
 mod reading;
+mod test_texts;
 mod writing;
 
 pub use base::base_input;
 pub use building::{Assignment, build};
-pub use faults::MapFault;
+pub use faults::{MapFault, TestFault};
 pub use maps::{an_input_has_a_map_text, read_map};
 pub use params::{layout, param_cells};
+pub use test_texts::read_test;
 pub use writing::{write_map, write_test};
 
 #[cfg(test)]

@@ -1,7 +1,7 @@
 //! Rows of the rule of inputs, on a program with `struct cell { int v; struct cell *next; }` and a function of two
 //! pointers to it.
 
-use crate::{MapFault, base_input, read_map, write_map, write_test};
+use crate::{MapFault, TestFault, base_input, read_map, read_test, write_map, write_test};
 use cc_model::base::{Bounds, CellTy, End, FaultKind, Input, Outcome, Test, TyId};
 use cc_model::checked::Layout;
 use cc_model::trees::{Base, Item, Param, Program, ResultType, TypeName};
@@ -130,5 +130,28 @@ fn a_test(rt: HostRuntime) -> Result<(), Fail> {
     };
     let written = write_test(rt.alloc(), &test).ok().ok_or("memory")?;
     assert_eq!(rt; written.as_slice(), b"!T null@7 ~/-2,4".as_slice());
+    Ok(())
+}
+
+#[test]
+fn texts_of_tests(rt: HostRuntime) -> Result<(), Fail> {
+    let checked = program(rt.alloc())?;
+    let bounds = Bounds::new(-9, 9, 5, 2, 100).ok_or("bounds")?;
+    let text = b"a! null@4 3,0,0,0".as_slice();
+    let test = read_test(rt.alloc(), text, &checked, &bounds)
+        .ok()
+        .ok_or("no test")?;
+    let written = write_test(rt.alloc(), &test).ok().ok_or("memory")?;
+    assert_eq!(rt; written.as_slice(), text);
+    for (text, fault) in [
+        (b"a! null@4".as_slice(), TestFault::Form),
+        (b"a! null@4 0,0 0,0", TestFault::Form),
+        (b"a! null@4294967296 0,0", TestFault::Form),
+        (b"a? null@4 0,0", TestFault::Form),
+        (b"a! null@4 4,0", TestFault::Map(MapFault::NotCanonical(1))),
+    ] {
+        let read = read_test(rt.alloc(), text, &checked, &bounds);
+        assert_eq!(rt; read.err(), Some(fault));
+    }
     Ok(())
 }

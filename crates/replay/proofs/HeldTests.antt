@@ -8,7 +8,7 @@ use Rattle.replay.specs.declared.line.Line.{Line as Kind}
 use Rattle.replay.specs.declared.line.Line.TheVariants as of
 use Rattle.replay.specs.Files.{AreLines, no_line, test_line, other_line, IsTestsFile}
 use Rattle.replay.specs.Lines.{IsLine, test, past, stray, unrun, other}
-use Rattle.replay.specs.TestTexts.{IsGood}
+use Rattle.input_map.specs.TestTexts.{IsGood}
 
 -- as many lines as tests, each test a good one, and no more tests than bytes
 pub record AreGood (p : Program) (b : Limits) (size : ℕ) (tests : List Test) (lines : List ℕ) : Type 0 where

@@ -1,7 +1,4 @@
 pub mod Shapes
-pub mod Threes
-pub mod MapLacks
-pub mod ReadLaws
 pub mod FileLaws
 pub mod FormLaws
 pub mod LineLaws

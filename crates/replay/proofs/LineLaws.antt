@@ -14,7 +14,7 @@ use Rattle.replay.specs.declared.line.Line.TheVariants as of
 use Rattle.replay.specs.Forms.{IsOther}
 use Rattle.replay.specs.Lines.{IsLine, test, past, stray, unrun, other}
 use Rattle.replay.specs.Reading.{Tells, IsStray, IsUnrun}
-use Rattle.replay.specs.TestTexts.{IsTestText}
+use Rattle.input_map.specs.TestTexts.{IsTestText}
 use Rattle.replay.proofs.FormLaws.{apart, IsNoFirst, not_other, no_test, no_past, no_stray, no_unrun, other_has_blank}
 use Rattle.replay.proofs.Shapes.{cancel}
 

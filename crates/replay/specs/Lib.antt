@@ -1,4 +1,3 @@
-pub mod TestTexts
 pub mod Forms
 pub mod Lines
 pub mod Files

@@ -11,7 +11,7 @@ use Rattle.cc_model.specs.Report.{newline, bounds_line, item_line}
 use Rattle.replay.specs.declared.line.Line.{Line}
 use Rattle.replay.specs.declared.line.Line.TheVariants as of
 use Rattle.replay.specs.Forms.{IsOther}
-use Rattle.replay.specs.TestTexts.{IsGood, IsShortInput}
+use Rattle.input_map.specs.TestTexts.{IsGood, IsShortInput}
 
 -- the first line: that of the bounds, each of which is in its range
 pub record IsBounds (line : List ℕ) (b : Limits) : Type 0 where

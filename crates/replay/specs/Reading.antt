@@ -11,7 +11,7 @@ use Rattle.replay.specs.declared.line.First.{First}
 use Rattle.replay.specs.declared.line.First.TheVariants as of
 use Rattle.replay.specs.declared.line.Line.{Line}
 use Rattle.replay.specs.declared.line.Line.TheVariants.{Test as with_test, Other, Bad}
-use Rattle.replay.specs.TestTexts.{IsTestText, IsShortInput}
+use Rattle.input_map.specs.TestTexts.{IsTestText, IsShortInput}
 
 -- a line with a test is one of these tests, another line comes only so
 abbrev pub Tells : (Test → Type 0) → Type 0 → Line → Type 0

@@ -1,35 +1,11 @@
-//! Why tests and tests files are refused.
+//! Why tests files are refused.
 
 ghost use Rattle.std.specs.Prelude.{◌≡◌};
-ghost use Rattle.replay.specs.declared.faults.TestFault.TheVariants as fault;
 ghost use Rattle.replay.specs.declared.faults.TestsFault.TheVariants as file_fault;
 
 use cc_model::base::NoMemory;
-use input_map::MapFault;
 use std::alloc::{AllocError, AllocFailed};
 use thiserror::Error;
-
-/// Why a text is not that of a test.
-#[derive(Clone, Copy, Debug, PartialEq, Eq, Error)]
-pub enum TestFault {
-    /// The text is not three words, the text of a path, the text of an end and another.
-    #[error("it is no path, end and input")]
-    Form,
-    /// The third word is not the map text of an input within bounds. The fault is never want of memory.
-    #[error("the input: {0}")]
-    Map(MapFault),
-    /// Memory ran out.
-    #[error("out of memory")]
-    NoMemory,
-}
-
-impl From<NoMemory> for TestFault {
-    ghost from_gives = { λ _ f. f ≡ fault.NoMemory };
-
-    fn from(_: NoMemory) -> Self {
-        TestFault::NoMemory
-    }
-}
 
 /// Why a text is no tests file.
 #[derive(Clone, Copy, Debug, PartialEq, Eq, Error)]

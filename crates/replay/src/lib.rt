@@ -5,12 +5,10 @@ mod bounds;
 mod faults;
 mod forms;
 mod line;
-mod reading;
 mod replayed;
 mod tests_file;
 
-pub use faults::{TestFault, TestsFault};
-pub use reading::read_test;
+pub use faults::TestsFault;
 pub use replayed::{Replayed, replay_test};
 pub use tests_file::{Tests, read_tests};
 

@@ -11,15 +11,13 @@ ghost use Rattle.replay.specs.Forms.{IsOther};
 ghost use Rattle.replay.specs.Lines.{IsLine};
 ghost use Rattle.replay.specs.Reading.{Tells, IsFirst, IsBefore, IsStray, IsInputText, IsUnrun};
 ghost use Rattle.input_map.specs.declared.faults.MapFault.TheVariants as map_fault;
-ghost use Rattle.replay.specs.TestTexts.{IsTestText};
+ghost use Rattle.input_map.specs.TestTexts.{IsTestText};
 
 use crate::bounds::is_text;
-use crate::faults::TestFault;
 use crate::forms::is_other;
-use crate::reading::read_test;
 use cc_model::Checked;
 use cc_model::base::{Bounds, NoMemory, Test};
-use input_map::{MapFault, read_map};
+use input_map::{MapFault, TestFault, read_map, read_test};
 use report_words::{cut_first, cut_last, path_of};
 use std::alloc::Global;
 

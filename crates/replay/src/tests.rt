@@ -1,7 +1,7 @@
 //! Tests files, each with one fault, on a program with `struct cell { int v; struct cell *next; }` and a function of two
 //! pointers to it.
 
-use crate::{TestFault, Tests, TestsFault, read_test, read_tests};
+use crate::{Tests, TestsFault, read_tests};
 use cc_model::base::{Bounds, CellTy, NoMemory, TyId};
 use cc_model::checked::Layout;
 use cc_model::trees::{Base, Item, Param, Program, ResultType, TypeName};
@@ -240,25 +240,5 @@ fn ends_of_files(rt: HostRuntime) -> Result<(), NoMemory> {
     assert!(rt; matches!(cut, Err(TestsFault::Line(1))));
     let text = joined(rt.alloc(), &[FIRST, "replayed 6"])?;
     assert!(rt; matches!(read(rt.alloc(), &text, &checked), Err(TestsFault::Line(2))));
-    Ok(())
-}
-
-#[test]
-fn texts_of_tests(rt: HostRuntime) -> Result<(), NoMemory> {
-    let checked = program(rt.alloc())?;
-    let Some(bounds) = Bounds::new(-9, 9, 10, 8, 1000) else {
-        return Ok(());
-    };
-    let read = read_test(rt.alloc(), b"a! null@4 3,0,0,0", &checked, &bounds);
-    assert!(rt; read.is_ok());
-    let form = read_test(rt.alloc(), b"a! null@4", &checked, &bounds);
-    assert!(rt; matches!(form, Err(TestFault::Form)));
-    let map = read_test(rt.alloc(), b"a! null@4 4,0", &checked, &bounds);
-    assert!(rt;
-        matches!(
-            map,
-            Err(TestFault::Map(input_map::MapFault::NotCanonical(1)))
-        )
-    );
     Ok(())
 }

@@ -3,7 +3,7 @@ use Rattle.replay.specs.declared.line.Line.TheVariants as of
 use Rattle.replay.specs.Forms.{IsOther}
 use Rattle.replay.specs.Lines.{IsLine, other}
 use Rattle.replay.specs.Reading.{IsStray, IsUnrun}
-use Rattle.replay.specs.TestTexts.{IsTestText}
+use Rattle.input_map.specs.TestTexts.{IsTestText}
 use Rattle.replay.proofs.LineLaws.{has_blank, test_is, past_is, stray_is, unrun_is, test_only, past_only, stray_only, unrun_only, other_only, if_tells}
 use Rattle.replay.proofs.line.read_line.Goals as goal
 

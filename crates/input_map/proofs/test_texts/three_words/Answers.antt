@@ -1,6 +1,6 @@
 use Rattle.std.proofs.Common.{refl, inr}
-use Rattle.replay.proofs.Threes.{none_at_first, none_at_second, parts, path_is, end_is, lacks_behind}
-use Rattle.replay.proofs.reading.three_words.Goals as goal
+use Rattle.input_map.proofs.Threes.{none_at_first, none_at_second, parts, path_is, end_is, lacks_behind}
+use Rattle.input_map.proofs.test_texts.three_words.Goals as goal
 
 pub returns-in_default-clause-refused : goal.returns-in_default-clause-refused
 returns-in_default-clause-refused c = inr (refl, none_at_first c.args.text.now c.in_default.ensures.none)

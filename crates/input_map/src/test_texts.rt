@@ -7,13 +7,13 @@ ghost use Rattle.cc_base.specs.Paths.{Path};
 ghost use Rattle.cc_model.specs.CheckedProgram.{core_of};
 ghost use Rattle.input_map.specs.declared.faults.MapFault.{MapFault as SeenFault};
 ghost use Rattle.input_map.specs.CellFaults.{Refused};
-ghost use Rattle.replay.specs.declared.faults.TestFault.TheVariants as fault;
-ghost use Rattle.replay.specs.TestTexts.{ThreeWords, IsTestText, TestRefused, WordsRefused, FaultOf, IsOrNoMemory};
+ghost use Rattle.input_map.specs.declared.faults.TestFault.TheVariants as fault;
+ghost use Rattle.input_map.specs.TestTexts.{ThreeWords, IsTestText, TestRefused, WordsRefused, FaultOf, IsOrNoMemory};
 
-use crate::faults::TestFault;
+use crate::faults::{MapFault, TestFault};
+use crate::maps::read_map;
 use cc_model::Checked;
 use cc_model::base::{Bounds, End, PathText, Test};
-use input_map::{MapFault, read_map};
 use report_words::{cut_first, end_of, lacks, path_of};
 use std::alloc::Global;
 

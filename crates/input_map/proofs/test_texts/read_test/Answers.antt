@@ -3,8 +3,8 @@ use Rattle.std.proofs.lemmas.Result.{err_from_is_err_and}
 use Rattle.cc_model.specs.CheckedProgram.{core_of}
 use Rattle.cc_base.specs.Inputs.{map_text}
 use Rattle.input_map.specs.CellFaults.{Refused}
-use Rattle.replay.proofs.ReadLaws.{words_of, words_only, map_only, read_only, form_only, words_or_memory, no_fault, same_fault}
-use Rattle.replay.proofs.reading.read_test.Goals as goal
+use Rattle.input_map.proofs.ReadLaws.{words_of, words_only, map_only, read_only, form_only, words_or_memory, no_fault, same_fault}
+use Rattle.input_map.proofs.test_texts.read_test.Goals as goal
 
 pub returns-in_err-words-clause-only : goal.returns-in_err-words-clause-only
 returns-in_err-words-clause-only c t h =

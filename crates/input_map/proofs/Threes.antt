@@ -1,5 +1,5 @@
 -- The three words of a test's text.
-use Rattle.std.proofs.Common.{◌≡◌, ◌∙◌, sym, ap, ap₂, subst, ℕ, List, ◌∷◌, ◌++◌, arith}
+use Rattle.std.proofs.Common.{◌≡◌, ◌∙◌, sym, ap, ap₂, subst, ℕ, List, ◌∷◌, ◌++◌, codes, append_assoc, arith}
 use Rattle.cc_base.specs.declared.ends.End.{End}
 use Rattle.cc_base.specs.Ends.{end_text}
 use Rattle.cc_base.specs.Paths.{Path, path_text}
@@ -7,8 +7,11 @@ use Rattle.report_words.specs.Cuts.{Lacks, CutFirst}
 use Rattle.report_words.specs.Words.{IsPath, IsEnd}
 use Rattle.report_words.proofs.Cutting.{no_first, first_once}
 use Rattle.report_words.proofs.Texts.{lacks_path, lacks_end}
-use Rattle.replay.specs.TestTexts.{ThreeWords}
-use Rattle.replay.proofs.Shapes.{three}
+use Rattle.input_map.specs.TestTexts.{ThreeWords}
+
+-- the text, read from the left
+three : (a b m : List ℕ) → a ++ codes " " ++ b ++ codes " " ++ m ≡ a ++ 32 ∷ (b ++ 32 ∷ m)
+three a b m = append_assoc (a ++ codes " " ++ b) (codes " ") m ∙ append_assoc (a ++ codes " ") b (codes " " ++ m) ∙ append_assoc a (codes " ") (b ++ (codes " " ++ m))
 
 pub first_cut : (text : List ℕ) (p : Path) (e : End) (m : List ℕ) → ThreeWords text p e m → CutFirst 32 text (path_text p) (end_text e ++ 32 ∷ m)
 first_cut text p e m h = record { is = h.text_is ∙ three (path_text p) (end_text e) m; first = lacks_path 32 p (omega arith) }

@@ -14,10 +14,10 @@ use Rattle.input_map.specs.declared.faults.MapFault.TheVariants as map_fault
 use Rattle.input_map.specs.CellFaults.{Refused, Answers}
 use Rattle.input_map.specs.CellFaults as maps
 use Rattle.input_map.specs.Maps.{IsMap}
-use Rattle.replay.specs.declared.faults.TestFault.{TestFault}
-use Rattle.replay.specs.declared.faults.TestFault.TheVariants as fault
-use Rattle.replay.specs.TestTexts.{ThreeWords, IsTestText, TestRefused, WordsRefused, FaultOf, IsOrNoMemory}
-use Rattle.replay.proofs.MapLacks.{lacks_map}
+use Rattle.input_map.specs.declared.faults.TestFault.{TestFault}
+use Rattle.input_map.specs.declared.faults.TestFault.TheVariants as fault
+use Rattle.input_map.specs.TestTexts.{ThreeWords, IsTestText, TestRefused, WordsRefused, FaultOf, IsOrNoMemory}
+use Rattle.input_map.proofs.MapLacks.{lacks_map}
 
 pub words_of : (p : Program) (b : Limits) (text : List ℕ) (t : Test) → IsTestText p b text t → ThreeWords text t.path t.end (map_text t.input)
 words_of p b text t h = record {

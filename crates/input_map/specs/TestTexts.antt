@@ -16,8 +16,8 @@ use Rattle.input_map.specs.CellFaults.{Refused}
 use Rattle.input_map.specs.Maps.{AllShort}
 use Rattle.report_words.specs.Cuts.{Lacks}
 use Rattle.report_words.specs.Words.{HasLine}
-use Rattle.replay.specs.declared.faults.TestFault.{TestFault}
-use Rattle.replay.specs.declared.faults.TestFault.TheVariants.{Form, Map, NoMemory}
+use Rattle.input_map.specs.declared.faults.TestFault.{TestFault}
+use Rattle.input_map.specs.declared.faults.TestFault.TheVariants.{Form, Map, NoMemory}
 
 -- the text is three words with a blank between them: the text of the path, that of the end, and another
 pub record ThreeWords (text : List ℕ) (path : Path) (e : End) (map : List ℕ) : Type 0 where
