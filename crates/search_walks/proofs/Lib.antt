@@ -14,3 +14,4 @@ pub mod CoverLaws
 pub mod TakeLaws
 pub mod EndLaws
 pub mod FollowLaws
+pub mod LoggedLaws

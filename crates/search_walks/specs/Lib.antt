@@ -14,3 +14,4 @@ pub mod Made
 pub mod Covering
 pub mod Counted
 pub mod Steps
+pub mod Logged

@@ -1,14 +1,17 @@
 //! What a walk does at each step: it runs an input, or solves one, and lists what comes of it.
 
-ghost use Rattle.std.specs.Prelude.{◌≡◌, ◌<◌, ◌≤◌, ◌+◌, ◌*◌, true, false, length, All, IfOk, IfErr, OnErr};
+ghost use Rattle.std.specs.Prelude.{◌≡◌, ◌<◌, ◌≤◌, ◌+◌, ◌*◌, true, false, List, length, All, IfOk, IfErr, OnErr};
 ghost use Rattle.cc_base.specs.Outcomes.{HasByte};
-ghost use Rattle.cc_base.specs.Paths.{BeginsWith};
+ghost use Rattle.cc_base.specs.Paths.{BeginsWith, In};
+ghost use Rattle.cc_model.specs.Listing.{Item};
 ghost use Rattle.cc_model.specs.Report.{is_fault, item_line};
 ghost use Rattle.cc_outside.specs.Told.{WritesPart};
 ghost use Rattle.search_walks.specs.Counted.{Counted, Nothing};
 ghost use Rattle.search_walks.specs.Made.{RunOf, within_of};
 ghost use Rattle.search_walks.specs.Output.{one_for, decision_count, SinkCause};
-ghost use Rattle.search_walks.specs.Steps.{IsLine, Followed, FollowedSome, Started, base_item};
+ghost use Rattle.search_walks.specs.Steps.{IsLine, Followed, FollowedSome, Started, TriedOne, TriedSome, base_item};
+ghost use Rattle.search_walks.specs.Setting.{layer_of};
+ghost use Rattle.search_walks.specs.Logged.{Logged, Finished, FinishedSome};
 ghost use Rattle.search_walks.specs.Task.{setting_of, Known};
 
 use crate::covering::{either, mark_events};
@@ -198,7 +201,18 @@ impl Log {
         event: u32,
         outcome: Outcome,
         out: &mut K,
-    ) -> Result<Option<Tried>, SearchFault> {
+    ) -> Result<Option<Tried>, SearchFault>
+        requires known { Known task.now }
+        requires run { RunOf (setting_of task.now) (run.now).trace (run.now).path }
+        requires there { event < length (run.now).path }
+        requires offered { In outcome ((layer_of (setting_of task.now)).others ((run.now).trace).input event) }
+        requires room { self.old.made < 4294967295 }
+        requires size { length self.old.covered.items ≡ 2 * length ((task.now.checked).now).sites }
+        ensures ok { IfOk result (TriedOne (setting_of task.now) ((run.now).trace).input (event, outcome) (K.written out.old) (K.written out.new) self.old self.new) }
+        ensures err { OnErr result (TriedSome (setting_of task.now) ((run.now).trace).input (event, outcome) (K.written out.old) (K.written out.new)) }
+        ensures sink { IfErr result (λ e. SinkCause (K.faults out.old) (K.faults out.new) e) }
+        ensures never_falls { K.faults out.old ≤ K.faults out.new }
+    {
         let prefix = prefix_of(task.alloc, run.path.as_slice(), event, outcome)?;
         a_run_is_lawful();
         let turned = turn(
@@ -226,7 +240,12 @@ impl Log {
         &self,
         task: &Task<'_>,
         out: &mut K,
-    ) -> Result<WalkSummary, SearchFault> {
+    ) -> Result<WalkSummary, SearchFault>
+        ensures ok { IfOk result (λ w. (items : List Item) → Logged (setting_of task.now) items self.now → Finished (setting_of task.now) items (K.written out.old) (K.written out.new) w) }
+        ensures err { OnErr result (FinishedSome (K.written out.old) (K.written out.new)) }
+        ensures sink { IfErr result (λ e. SinkCause (K.faults out.old) (K.faults out.new) e) }
+        ensures never_falls { K.faults out.old ≤ K.faults out.new }
+    {
         write_terms(task.alloc, self.terms.as_slice(), out)?;
         Ok(WalkSummary {
             runs: u64::from(self.made),

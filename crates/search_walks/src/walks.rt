@@ -1,6 +1,6 @@
 //! The walks.
 
-ghost use Rattle.std.specs.Prelude.{◌≡◌, ◌≤◌, ◌-◌, ◌∷◌, [], true, false, IfOk, IfErr, OnErr, map};
+ghost use Rattle.std.specs.Prelude.{◌≡◌, ◌≤◌, ◌-◌, ◌∷◌, [], Bool, true, false, length, IfOk, IfErr, OnOk, OnErr, map};
 ghost use Rattle.cc_model.specs.CheckedProgram.{core_of};
 ghost use Rattle.cc_model.specs.Compiles.{Compiles};
 ghost use Rattle.cc_model.specs.Graphs.{PointsToCells};
@@ -8,7 +8,10 @@ ghost use Rattle.cc_model.specs.Runs.{params_of};
 ghost use Rattle.tac_lower.specs.Finished.{first_in};
 ghost use Rattle.tac_lower.specs.Seen.{seen};
 ghost use Rattle.search_walks.specs.Output.{SinkCause, WalkedWhole, WalkedPart};
+ghost use Rattle.search_walks.specs.Counted.{Nothing};
 ghost use Rattle.search_walks.specs.Draws.{seeded};
+ghost use Rattle.search_walks.specs.Logged.{Walked, WalkedSome};
+ghost use Rattle.search_walks.specs.Task.{setting_of, Known};
 ghost use Rattle.search_walks.specs.Setting.{setting, base_of};
 ghost use Rattle.search_walks.specs.Walks.{candidates as candidates_at, Branches, Passes, Directed};
 
@@ -36,7 +39,15 @@ fn branch_walk<K: Sink>(
     words: &mut Pcg32,
     log: &mut Log,
     out: &mut K,
-) -> Result<(), SearchFault> {
+) -> Result<(), SearchFault>
+    requires known { Known task.now }
+    requires runs { 1 ≤ task.now.limit }
+    requires nothing { Nothing (length ((task.now.checked).now).sites) log.old }
+    ensures ok { OnOk result ((cuts : Bool) → Walked (setting_of task.now) (λ l. Branches (setting_of task.now) task.now.limit cuts (base_of (setting_of task.now)) (candidates_at (setting_of task.now) (base_of (setting_of task.now))) words.old 1 l) (K.written out.old) (K.written out.new) log.new) }
+    ensures err { OnErr result (WalkedSome (setting_of task.now) (λ l. Branches (setting_of task.now) task.now.limit true (base_of (setting_of task.now)) (candidates_at (setting_of task.now) (base_of (setting_of task.now))) words.old 1 l) (K.written out.old) (K.written out.new)) }
+    ensures sink { IfErr result (λ e. SinkCause (K.faults out.old) (K.faults out.new) e) }
+    ensures never_falls { K.faults out.old ≤ K.faults out.new }
+{
     let mut current = log.begin(task, out)?;
     let mut open = candidates(task.alloc, current.trace.events.as_slice())?;
     while log.made < task.limit && !open.is_empty() {
@@ -123,7 +134,15 @@ fn uniform_walk<K: Sink>(
     words: &mut Pcg32,
     log: &mut Log,
     out: &mut K,
-) -> Result<(), SearchFault> {
+) -> Result<(), SearchFault>
+    requires known { Known task.now }
+    requires runs { 1 ≤ task.now.limit }
+    requires nothing { Nothing (length ((task.now.checked).now).sites) log.old }
+    ensures ok { OnOk result ((cuts : Bool) → Walked (setting_of task.now) (λ l. Passes (setting_of task.now) task.now.limit cuts (base_of (setting_of task.now)) 0 (task.now.limit - 1) words.old 1 l) (K.written out.old) (K.written out.new) log.new) }
+    ensures err { OnErr result (WalkedSome (setting_of task.now) (λ l. Passes (setting_of task.now) task.now.limit true (base_of (setting_of task.now)) 0 (task.now.limit - 1) words.old 1 l) (K.written out.old) (K.written out.new)) }
+    ensures sink { IfErr result (λ e. SinkCause (K.faults out.old) (K.faults out.new) e) }
+    ensures never_falls { K.faults out.old ≤ K.faults out.new }
+{
     let base = log.begin(task, out)?;
     for _pass in 0..task.limit {
         pass(task, &base, words, log, out)?;
@@ -165,7 +184,15 @@ fn nearest(open: &[Candidate], distances: &[Option<u32>]) -> Option<usize> {
 }
 
 /// Walks from the base input to the alternatives from which the fewest decisions lead to an outcome that isn't covered.
-fn directed_walk<K: Sink>(task: &Task<'_>, log: &mut Log, out: &mut K) -> Result<(), SearchFault> {
+fn directed_walk<K: Sink>(task: &Task<'_>, log: &mut Log, out: &mut K) -> Result<(), SearchFault>
+    requires known { Known task.now }
+    requires runs { 1 ≤ task.now.limit }
+    requires nothing { Nothing (length ((task.now.checked).now).sites) log.old }
+    ensures ok { OnOk result ((cuts : Bool) → Walked (setting_of task.now) (λ l. Directed (setting_of task.now) task.now.limit cuts (task.now.tac).now (base_of (setting_of task.now)) (candidates_at (setting_of task.now) (base_of (setting_of task.now))) (base_of (setting_of task.now) ∷ []) 1 l) (K.written out.old) (K.written out.new) log.new) }
+    ensures err { OnErr result (WalkedSome (setting_of task.now) (λ l. Directed (setting_of task.now) task.now.limit true (task.now.tac).now (base_of (setting_of task.now)) (candidates_at (setting_of task.now) (base_of (setting_of task.now))) (base_of (setting_of task.now) ∷ []) 1 l) (K.written out.old) (K.written out.new)) }
+    ensures sink { IfErr result (λ e. SinkCause (K.faults out.old) (K.faults out.new) e) }
+    ensures never_falls { K.faults out.old ≤ K.faults out.new }
+{
     let mut current = log.begin(task, out)?;
     let flow = Flow::new(task.alloc, task.checked, task.tac)?;
     let mut open = candidates(task.alloc, current.trace.events.as_slice())?;
