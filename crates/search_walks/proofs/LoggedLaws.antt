@@ -1,11 +1,11 @@
 -- What a log holds, item by item.
-use Rattle.std.proofs.Common.{◌≡◌, ℕ, Bool, true, false, ◌<◌, ◌*◌, ◌⊎◌, ◌||◌, inl, inr, List, [], ◌∷◌, ◌++◌, length, map, Option, append-nil, append_assoc, refl, sym, ap, ◌∙◌, subst, arith}
+use Rattle.std.proofs.Common.{◌≡◌, ℕ, Bool, true, false, ◌<◌, ◌||◌, inl, inr, List, [], ◌∷◌, ◌++◌, length, map, Option, append-nil, append_assoc, refl, sym, ap, ◌∙◌, subst, arith}
 use Rattle.cc_base.specs.declared.inputs.Input.{Input}
 use Rattle.cc_base.specs.declared.inputs.Test.{Test}
 use Rattle.cc_base.specs.Limits.{InRange}
 use Rattle.cc_base.specs.Paths.{Path, In}
 use Rattle.cc_model.specs.CheckedProgram.{core_of}
-use Rattle.cc_model.specs.Listing.{Item, test_item, spent_item, WasRun, is_run}
+use Rattle.cc_model.specs.Listing.{Item, spent_item, WasRun, is_run}
 use Rattle.cc_model.specs.Report.{item_line, item_lines, term_lines, is_fault, has_fault}
 use Rattle.cc_model.specs.Runs.{params_of}
 use Rattle.cc_model.specs.Tested.{Real}
@@ -21,7 +21,7 @@ use Rattle.search_walks.specs.Logged.{Logged, Finished, FinishedSome, Walked, Wa
 use Rattle.search_walks.specs.Made.{within_of}
 use Rattle.search_walks.specs.Output.{Begins, WalkedWhole, WalkedPart}
 use Rattle.search_walks.specs.Setting.{Setting, layer_of, base_of}
-use Rattle.search_walks.specs.Steps.{Followed, FollowedSome, nothing_came, one_came, Started, TriedSome, nothing_yet, some_of_spent, some_of_run, base_item}
+use Rattle.search_walks.specs.Steps.{Followed, nothing_came, one_came, Started, TriedSome, nothing_yet, some_of_spent, some_of_run, base_item}
 use Rattle.search_walks.specs.Terms.{seen_term, InOrder}
 use Rattle.search_walks.specs.Walks.{Candidate, Gives, IsItemOf, IsSpent, prediction, test_of}
 use Rattle.search_walks.proofs.ItemLaws.{lines_more, part_more, whole_part, count_append, or_false, fault_append, ran_left, ran_right, ran_either, no_run, spent_no_run, IsOfRun, test_run, item_run, real_more, took_below}

@@ -1,5 +1,5 @@
 -- What comes of an alternative of a run.
-use Rattle.std.proofs.Common.{◌≡◌, ℕ, zero, suc, ◌<◌, ◌≤◌, List, [], ◌∷◌, length, map, take, Option, Some, None, All, slice_get, refl, sym, ap, ◌∙◌, subst, arith}
+use Rattle.std.proofs.Common.{◌≡◌, ℕ, zero, suc, ◌<◌, List, [], ◌∷◌, length, map, take, Option, Some, None, All, slice_get, refl, sym, ap, ◌∙◌, subst, arith}
 use Rattle.std.proofs.lemmas.List.Elements.{All-nil, All-cons, All-append, All-take}
 use Rattle.cc_base.specs.declared.inputs.Input.{Input}
 use Rattle.cc_base.specs.declared.outcomes.Outcome.{Outcome}
@@ -11,7 +11,6 @@ use Rattle.cc_model.specs.Conditions.{AnswersAt}
 use Rattle.cc_model.specs.Listing.{spent_item}
 use Rattle.cc_model.specs.Report.{item_line}
 use Rattle.cc_outside.specs.Told.{appended, WritesPart}
-use Rattle.cc_outside.proofs.ToldLemmas.{WritesPart-none, WritesPart-after}
 use Rattle.flip_solve.specs.declared.flipping.Turned.{Turned}
 use Rattle.flip_solve.specs.declared.flipping.Turned.TheVariants as turn
 use Rattle.flip_solve.specs.Settling.{answer_of}
@@ -25,7 +24,6 @@ use Rattle.search_walks.specs.Made.{RunOf}
 use Rattle.search_walks.specs.Setting.{Setting, layer_of}
 use Rattle.search_walks.specs.Steps.{Followed, FollowedSome, TriedOne, no_input, past_budget, was_run, TriedSome, some_of_spent, some_of_run}
 use Rattle.search_walks.specs.Walks.{Gives, IsNever, IsSpent, prediction}
-use Rattle.search_walks.proofs.ItemLaws.{whole_part}
 
 -- what a solve answered, in the words of the walks
 abbrev pub Came : Setting → Input → Path → Turned → Type 0

@@ -1,6 +1,5 @@
-use Rattle.std.proofs.Common.{take, refl, ap, ◌∙◌, subst}
+use Rattle.std.proofs.Common.{take, refl, ap, ◌∙◌}
 use Rattle.cc_base.specs.Paths.{Path, next}
-use Rattle.cc_outside.specs.Told.{WritesPart}
 use Rattle.flip_solve.specs.declared.flipping.Turned.TheVariants as turn
 use Rattle.flip_solve.proofs.Bared.{whole_trace}
 use Rattle.search_walks.specs.Steps.{nothing_yet}
