@@ -23,7 +23,7 @@ use Rattle.replay.specs.declared.line.Line.{Line as Kind}
 use Rattle.replay.specs.declared.line.Line.TheVariants as of
 use Rattle.replay.specs.Forms.{WordForm, the, named, number, place, path, outcome, term_kind, site_kind, site_text, IsWord, AreWords, IsOther}
 use Rattle.replay.specs.Lines.{IsBounds, IsLine, test, past, stray, unrun, other}
-use Rattle.replay.specs.ReportFiles.{IsGoodItem, kind_of, IsSmallTerm, AreBounds}
+use Rattle.replay.specs.ReportFiles.{IsGoodItem, kind_of, IsSmallTerm, AreSmall, AreBounds}
 use Rattle.replay.proofs.ReportTexts.{whole_decimal, whole_map, whole_test, whole_signed, whole_more}
 
 -- the text is one line with its newline, of this kind
@@ -144,14 +144,6 @@ complete_is m n h k = (
   (first_then (codes "complete") (named (codes "paths")) (named (codes "runs") ∷ []) _ refl
   (named_then (codes "paths") m (named (codes "runs")) [] _ refl h (last_named (codes "runs") n refl k))),
 )
-
--- five numbers of 64 bits
-pub record AreSmall (c : Counts) : Type 0 where
-  pub terms : c.terms < 2 ^ 64
-  pub spent : c.spent < 2 ^ 64
-  pub steps : c.steps < 2 ^ 64
-  pub strays : c.strays < 2 ^ 64
-  pub unrun : c.unrun < 2 ^ 64
 
 pub incomplete_is : (c : Counts) → AreSmall c →
     IsOther (codes "incomplete terms=" ++ decimal c.terms ++ codes " spent=" ++ decimal c.spent ++ codes " steps=" ++ decimal c.steps ++ codes " strays=" ++ decimal c.strays ++ codes " unrun=" ++ decimal c.unrun)

@@ -5,7 +5,7 @@ use Rattle.cc_base.specs.Limits.{Limits, InRange}
 use Rattle.cc_base.specs.Outcomes.{HasByte}
 use Rattle.cc_model.specs.Core.{Program}
 use Rattle.cc_model.specs.Tested.{Term}
-use Rattle.cc_model.specs.Listing.{Item, test_item, past_item, stray_item, spent_item, unrun_item}
+use Rattle.cc_model.specs.Listing.{Counts, Item, test_item, past_item, stray_item, spent_item, unrun_item}
 use Rattle.replay.specs.declared.line.Line.{Line}
 use Rattle.replay.specs.declared.line.Line.TheVariants as of
 use Rattle.input_map.specs.TestTexts.{IsGood, IsShortInput}
@@ -39,6 +39,14 @@ ran (unrun_item i q ∷ l) = ran l
 pub record IsSmallTerm (e : Term) : Type 0 where
   pub line : e.line < 2 ^ 64
   pub col : e.col < 2 ^ 64
+
+-- the counts have 64 bits
+pub record AreSmall (c : Counts) : Type 0 where
+  pub terms : c.terms < 2 ^ 64
+  pub spent : c.spent < 2 ^ 64
+  pub steps : c.steps < 2 ^ 64
+  pub strays : c.strays < 2 ^ 64
+  pub unrun : c.unrun < 2 ^ 64
 
 -- bounds that stand in the first line of a tests file
 pub record AreBounds (b : Limits) : Type 0 where
