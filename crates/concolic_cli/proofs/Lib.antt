@@ -12,3 +12,4 @@ mod Reports
 mod Commands
 mod Calls
 mod Promises
+pub mod ReportFiles

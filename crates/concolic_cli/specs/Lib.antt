@@ -12,3 +12,4 @@ pub mod Compiling
 pub mod Prepared
 pub mod Replaying
 pub mod Concolic
+pub mod ReportFiles
