@@ -31,14 +31,12 @@ use Rattle.command_words.specs.Words.{Accepted}
 use Rattle.command_words.proofs.Forms.{Form, a_run, a_trace, a_replay, a_make, form_of}
 use Rattle.input_map.specs.TestTexts.{IsGood, IsShortInput}
 use Rattle.input_map.proofs.ShortNumbers.{has_map}
-use Rattle.replay.specs.declared.line.Line.{Line as Kind}
-use Rattle.replay.specs.declared.line.Line.TheVariants as of
 use Rattle.report_words.proofs.Bytes.{all_first, all_later}
 use Rattle.replay.specs.Files.{IsTestsFile}
 use Rattle.replay.specs.Forms as form
 use Rattle.replay.specs.ReportFiles.{IsGoodItem, ran, AreBounds}
-use Rattle.replay.proofs.ReportLines.{IsWhole, item_is, event_line_is, complete_line_is, incomplete_line_is}
-use Rattle.replay.proofs.ReportFiles.{HasTests, one_line, one_line_alone, file_is, report_is}
+use Rattle.replay.proofs.ReportLines.{IsOtherLine, event_line_is, complete_line_is, incomplete_line_is}
+use Rattle.replay.proofs.ReportFiles.{HasTests, other_line, test_alone, file_is, report_is}
 use Rattle.search_dfs.specs.Output.{HasTestLine, CanBeRead}
 use Rattle.concolic_cli.specs.Listings.{test_at, HasNarrowLines}
 use Rattle.concolic_cli.specs.ReportFiles.{WroteTestsFile, WroteTestFile}
@@ -110,12 +108,12 @@ module _ (p : Program) (b : Limits) (well : PointsToCells p.layouts (params_of p
 
 -- ---- a listing
 
-either : (p : Program) (b : Limits) (q : Bool) (x y : List ℕ) (k : Kind) → IsWhole p b x k → IsWhole p b y k → IsWhole p b (if q then x else y) k
-either p b true x y k h g = h
-either p b false x y k h g = g
+either : (p : Program) (b : Limits) (q : Bool) (x y : List ℕ) → IsOtherLine p b x → IsOtherLine p b y → IsOtherLine p b (if q then x else y)
+either p b true x y h g = h
+either p b false x y h g = g
 
-last_is : (p : Program) (b : Limits) (l : Listing) → HasNarrowLines l → IsWhole p b (last_line l) of.Other
-last_is p b l n = either p b (nat_eq (total (counts_of l)) 0) (complete_line l) (incomplete_line (counts_of l)) of.Other (complete_line_is p b _ _ n.paths n.runs) (incomplete_line_is p b (counts_of l) n.counts)
+last_is : (p : Program) (b : Limits) (l : Listing) → HasNarrowLines l → IsOtherLine p b (last_line l)
+last_is p b l n = either p b (nat_eq (total (counts_of l)) 0) (complete_line l) (incomplete_line (counts_of l)) (complete_line_is p b _ _ n.paths n.runs) (incomplete_line_is p b (counts_of l) n.counts)
 
 pub listing_is_file : (p : Program) (b : Limits) (l : Listing) → PointsToCells p.layouts (params_of p) → AreBounds b → l.bounds ≡ b → ((x : Item) → In x l.items → IsGoodItem p b x) → HasNarrowLines l →
     (lines : List ℕ) × IsTestsFile p (report_text l) b (ran l.items) lines
@@ -155,15 +153,15 @@ site_same site.Index = refl
 site_same site.Access = refl
 
 module _ (p : Program) (b : Limits) where
-  event_whole : (i : ℕ) (o : Outcome) (n : ℕ) (k : SiteKind) → i < 2 ^ 64 → HasByte o → n < 2 ^ 64 → IsWhole p b (event_text i o n k) of.Other
+  event_whole : (i : ℕ) (o : Outcome) (n : ℕ) (k : SiteKind) → i < 2 ^ 64 → HasByte o → n < 2 ^ 64 → IsOtherLine p b (event_text i o n k)
   event_whole i o n k h has l =
-      subst (λ t. IsWhole p b (codes "event " ++ decimal i ++ codes " " ++ (byte_of o ∷ []) ++ codes " " ++ decimal n ++ codes " " ++ t ++ newline) of.Other) (sym (site_same k)) (event_line_is p b i o n k h has l)
+      subst (λ t. IsOtherLine p b (codes "event " ++ decimal i ++ codes " " ++ (byte_of o ∷ []) ++ codes " " ++ decimal n ++ codes " " ++ t ++ newline)) (sym (site_same k)) (event_line_is p b i o n k h has l)
 
   pub events_are : (n i : ℕ) (line : ℕ → ℕ) (log : List (Entry Outcome)) (rest : List ℕ) (ts : List Test) → ((t : ℕ) → line t < 2 ^ 64) → All HasByte (path_of plain log) → i + length log < 2 ^ 64 →
       ((m : ℕ) → HasTests p b m rest ts) → HasTests p b n (event_lines line i log ++ rest) ts
   events_are n i line [] rest ts lines bytes few h = h n
   events_are n i line (a ∷ l) rest ts lines bytes few h =
-      let r = one_line p b n (event_text i a.event (line a.token) a.kind) (event_lines line (suc i) l ++ rest) of.Other ts
+      let r = other_line p b n (event_text i a.event (line a.token) a.kind) (event_lines line (suc i) l ++ rest) ts
           (event_whole i a.event (line a.token) a.kind (omega (arith, few)) (all_first HasByte a.event (path_of plain l) bytes) (lines a.token))
           (events_are (suc n) (suc i) line l rest ts lines (all_later HasByte a.event (path_of plain l) bytes) (omega (arith, few)) h) in
       subst (λ t. HasTests p b n t ts) (sym (append_assoc (event_text i a.event (line a.token) a.kind) (event_lines line (suc i) l) rest)) r
@@ -176,7 +174,7 @@ module _ (p : Program) (b : Limits) where
       let high = (bounds.in_range).depth_high in
       file_is p b (event_lines p.line 1 (run_of p b h).log ++ item_line (test_item (test_at p b h))) (test_at p b h ∷ []) bounds
       (events_are 2 1 p.line (run_of p b h).log (item_line (test_item (test_at p b h))) (test_at p b h ∷ []) told.lines told.bytes (omega (arith, few, high))
-      (λ m. one_line_alone p b m (item_line (test_item (test_at p b h))) (of.Test (test_at p b h)) (item_is p b (test_item (test_at p b h)) good)))
+      (λ m. test_alone p b m (test_at p b h) good))
 
 pub file_of_trace : (l : List (List ℕ)) (held : Option Held) (old new : Option (List ℕ)) (r : TraceWords) (status : ℕ) → Accepted l (Trace r) → Wrote held old new (trace_task l r) status → WroteTestFile l held old new r
 file_of_trace l held old new r status a w =

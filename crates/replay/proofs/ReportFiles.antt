@@ -7,12 +7,13 @@ use Rattle.cc_model.specs.Core.{Program}
 use Rattle.cc_model.specs.Listing.{Item, test_item, past_item, stray_item, spent_item, unrun_item}
 use Rattle.cc_model.specs.Report.{newline, bounds_line, item_line, item_lines, term_line, term_lines}
 use Rattle.cc_model.specs.Tested.{Term}
+use Rattle.input_map.specs.TestTexts.{IsGood}
 use Rattle.replay.specs.declared.line.Line.{Line as Kind}
 use Rattle.replay.specs.declared.line.Line.TheVariants as of
 use Rattle.replay.specs.Files.{AreLines, no_line, IsTestsFile, tests_in, lines_in}
 use Rattle.replay.specs.ReportFiles.{IsGoodItem, kind_of, ran, IsSmallTerm, AreBounds}
 use Rattle.replay.proofs.FileLaws.{one_more}
-use Rattle.replay.proofs.ReportLines.{IsWhole, item_is, term_line_is, first_is}
+use Rattle.replay.proofs.ReportLines.{IsWhole, IsOtherLine, item_is, term_line_is, first_is}
 
 module _ (p : Program) (b : Limits) where
   -- the text, the first line of which has number n, is whole lines with these tests
@@ -30,6 +31,14 @@ module _ (p : Program) (b : Limits) where
 
   pub one_line_alone : (n : ℕ) (text : List ℕ) (kind : Kind) → IsWhole p b text kind → HasTests n text (tests_in kind ++ [])
   one_line_alone n text kind w = subst (λ t. HasTests n t (tests_in kind ++ [])) (append-nil text) (one_line n text [] kind [] w (no_lines (suc n)))
+
+  -- a line without a test
+  pub other_line : (n : ℕ) (text rest : List ℕ) (ts : List Test) → IsOtherLine p b text → HasTests (suc n) rest ts → HasTests n (text ++ rest) ts
+  other_line n text rest ts w h = one_line n text rest of.Other ts w h
+
+  -- the line of a test alone
+  pub test_alone : (n : ℕ) (t : Test) → IsGood p b t → HasTests n (item_line (test_item t)) (t ∷ [])
+  test_alone n t g = one_line_alone n (item_line (test_item t)) (of.Test t) (item_is p b (test_item t) g)
 
   ran_more : (x : Item) (l : List Item) (ts : List Test) → tests_in (kind_of x) ++ (ran l ++ ts) ≡ ran (x ∷ l) ++ ts
   ran_more (test_item t) l ts = refl
@@ -58,7 +67,7 @@ module _ (p : Program) (b : Limits) where
       (ns, record { first = f.line; rest = rest; cut = record { is = ap (λ t. t ++ rest) f.written ∙ append_assoc f.line newline rest; first = f.one }; bounds = f.is; others = l })
 
   -- a report: the bounds, the lines of good items, those of small terms, and a last line that holds no input
-  pub report_is : (items : List Item) (terms : List Term) (last : List ℕ) → AreBounds b → ((x : Item) → In x items → IsGoodItem p b x) → ((e : Term) → In e terms → IsSmallTerm e) → IsWhole p b last of.Other →
+  pub report_is : (items : List Item) (terms : List Term) (last : List ℕ) → AreBounds b → ((x : Item) → In x items → IsGoodItem p b x) → ((e : Term) → In e terms → IsSmallTerm e) → IsOtherLine p b last →
       (lines : List ℕ) × IsTestsFile p (bounds_line b ++ item_lines items ++ term_lines terms ++ last) b (ran items) lines
   report_is items terms last h g s w =
       let r = items_are 2 items (term_lines terms ++ last) [] g (λ m. terms_are m terms last [] s (λ k. one_line_alone k last of.Other w)) in

@@ -33,6 +33,10 @@ pub record IsWhole (p : Program) (b : Limits) (text : List ℕ) (kind : Kind) : 
   pub one : Lacks 10 line
   pub is : IsLine p b line kind
 
+-- the text is one line with its newline, which has no test
+abbrev pub IsOtherLine : Program → Limits → List ℕ → Type 0
+IsOtherLine p b text = IsWhole p b text of.Other
+
 -- ---- words
 
 word_then : (f g : WordForm) (form : List WordForm) (word rest : List ℕ) → Lacks 32 word → IsWord f word → AreWords (g ∷ form) rest → AreWords (f ∷ g ∷ form) (word ++ 32 ∷ rest)
@@ -213,7 +217,7 @@ module _ (p : Program) (b : Limits) where
     is = unrun i q refl g.0 g.1;
   }
 
-  pub term_line_is : (e : Term) → IsSmallTerm e → IsWhole p b (term_line e) of.Other
+  pub term_line_is : (e : Term) → IsSmallTerm e → IsOtherLine p b (term_line e)
   unfolding has_none
   term_line_is e s = record {
     line = codes "term " ++ decimal e.line ++ codes ":" ++ decimal e.col ++ codes " " ++ kind_text e.kind;
@@ -226,7 +230,7 @@ module _ (p : Program) (b : Limits) where
   }
 
   pub event_line_is : (i : ℕ) (o : Outcome) (n : ℕ) (k : SiteKind) → i < 2 ^ 64 → HasByte o → n < 2 ^ 64 →
-      IsWhole p b (codes "event " ++ decimal i ++ codes " " ++ (byte_of o ∷ []) ++ codes " " ++ decimal n ++ codes " " ++ site_text k ++ newline) of.Other
+      IsOtherLine p b (codes "event " ++ decimal i ++ codes " " ++ (byte_of o ∷ []) ++ codes " " ++ decimal n ++ codes " " ++ site_text k ++ newline)
   unfolding has_none
   event_line_is i o n k h has l = record {
     line = codes "event " ++ decimal i ++ codes " " ++ (byte_of o ∷ []) ++ codes " " ++ decimal n ++ codes " " ++ site_text k;
@@ -239,7 +243,7 @@ module _ (p : Program) (b : Limits) where
     is = other (event_is i o n k h has l);
   }
 
-  pub complete_line_is : (m n : ℕ) → m < 2 ^ 64 → n < 2 ^ 64 → IsWhole p b (codes "complete paths=" ++ decimal m ++ codes " runs=" ++ decimal n ++ newline) of.Other
+  pub complete_line_is : (m n : ℕ) → m < 2 ^ 64 → n < 2 ^ 64 → IsOtherLine p b (codes "complete paths=" ++ decimal m ++ codes " runs=" ++ decimal n ++ newline)
   unfolding has_none
   complete_line_is m n h k = record {
     line = codes "complete paths=" ++ decimal m ++ codes " runs=" ++ decimal n;
@@ -249,7 +253,7 @@ module _ (p : Program) (b : Limits) where
     is = other (complete_is m n h k);
   }
 
-  pub incomplete_line_is : (c : Counts) → AreSmall c → IsWhole p b (incomplete_line c) of.Other
+  pub incomplete_line_is : (c : Counts) → AreSmall c → IsOtherLine p b (incomplete_line c)
   unfolding has_none
   incomplete_line_is c s = record {
     line = codes "incomplete terms=" ++ decimal c.terms ++ codes " spent=" ++ decimal c.spent ++ codes " steps=" ++ decimal c.steps ++ codes " strays=" ++ decimal c.strays ++ codes " unrun=" ++ decimal c.unrun;
@@ -267,7 +271,7 @@ module _ (p : Program) (b : Limits) where
   }
 
   pub ended_line_is : (r c m : ℕ) → r < 2 ^ 64 → c < 2 ^ 64 → m < 2 ^ 64 →
-      IsWhole p b (codes "ended runs=" ++ decimal r ++ codes " covered=" ++ decimal c ++ codes " of " ++ decimal m ++ newline) of.Other
+      IsOtherLine p b (codes "ended runs=" ++ decimal r ++ codes " covered=" ++ decimal c ++ codes " of " ++ decimal m ++ newline)
   unfolding has_none
   ended_line_is r c m h k l = record {
     line = codes "ended runs=" ++ decimal r ++ codes " covered=" ++ decimal c ++ codes " of " ++ decimal m;
