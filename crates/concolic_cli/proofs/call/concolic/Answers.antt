@@ -46,7 +46,7 @@ pub returns-clause-run_alone : goal.returns-clause-run_alone
 returns-clause-run_alone g c = promise.run_alone _ _ c.one_command.ensures (ending _ _ c.answer.ensures.answered)
 
 pub returns-clause-complete : goal.returns-clause-complete
-returns-clause-complete g c = λ run after bytes paths a n i s few. promise.complete _ _ c.one_command.ensures (ending _ _ c.answer.ensures.answered) c.one_program.ensures run after bytes paths a n i s few
+returns-clause-complete g c = λ run after bytes paths a v n i s few. promise.complete _ _ c.one_command.ensures (ending _ _ c.answer.ensures.answered) c.one_program.ensures run after bytes paths a v n i s few
 
 pub returns-clause-complete_trace : goal.returns-clause-complete_trace
 returns-clause-complete_trace g c = λ trace bytes h a i m s. promise.complete_trace _ _ c.one_command.ensures (ending _ _ c.answer.ensures.answered) c.one_program.ensures trace bytes h a i m s
@@ -70,7 +70,7 @@ pub returns-clause-answers_make : goal.returns-clause-answers_make
 returns-clause-answers_make g c = λ n a. promise.answers_make _ _ c.one_command.ensures (ending _ _ c.answer.ensures.answered) n a
 
 pub returns-clause-answers_run : goal.returns-clause-answers_run
-returns-clause-answers_run g c = λ run after bytes p a n i s. promise.answers_run _ _ c.one_command.ensures (ending _ _ c.answer.ensures.answered) c.one_program.ensures run after bytes p a n i s
+returns-clause-answers_run g c = λ run after bytes p a v n i s. promise.answers_run _ _ c.one_command.ensures (ending _ _ c.answer.ensures.answered) c.one_program.ensures run after bytes p a v n i s
 
 pub returns-clause-missing_file : goal.returns-clause-missing_file
 returns-clause-missing_file g c = λ task h a told. promise.missing_file _ _ c.one_command.ensures (ending _ _ c.answer.ensures.answered) task a h told
@@ -89,3 +89,9 @@ returns-clause-answers_replay g c = λ r bytes file a i h. promise.answers_repla
 
 pub returns-clause-refused_tests : goal.returns-clause-refused_tests
 returns-clause-refused_tests g c = λ r bytes file line a i h. promise.refused_tests _ _ c.one_command.ensures (ending _ _ c.answer.ensures.answered) c.one_program.ensures r bytes file a i h line
+
+pub returns-clause-walked : goal.returns-clause-walked
+returns-clause-walked g c = λ words. promise.walked _ _ c.one_command.ensures (ending _ _ c.answer.ensures.answered) words
+
+pub returns-clause-answers_walk : goal.returns-clause-answers_walk
+returns-clause-answers_walk g c = λ run bytes p a v i s. promise.answers_walk _ _ c.one_command.ensures (ending _ _ c.answer.ensures.answered) c.one_program.ensures run bytes p a v i s
