@@ -10,7 +10,7 @@ use Rattle.cc_model.specs.declared.commands.Command.TheVariants.{Make, Replay}
 use Rattle.cc_model.specs.declared.commands.Strategy.{Strategy}
 use Rattle.cc_model.specs.declared.commands.Strategy.TheVariants.{Dfs, Random, UniformRandom, Cfg}
 use Rattle.command_words.specs.declared.words.Takes.TheVariants.{PathText}
-use Rattle.command_words.specs.Words.{Row, Accepted, run, trace, replay, make, Begins, BadWord, run_words, trace_words, strategy_word, IsServed, IsNumber, IsGiven, IsSeed, IsFine, behind, place_behind, AreNamed, AreBounds, run_options, trace_options, solver_option, depth_option}
+use Rattle.command_words.specs.Words.{Row, Accepted, run, trace, replay, make, Begins, BadWord, run_words, trace_words, strategy_word, IsNumber, IsGiven, IsSeed, IsFine, behind, place_behind, AreNamed, AreBounds, run_options, trace_options, solver_option, depth_option}
 use Rattle.command_words.specs.Options.{Fits, FitsWith, IsBadAt}
 use Rattle.command_words.proofs.NamedWords.{Words, length_take}
 use Rattle.command_words.proofs.Numerals.{one_number}
@@ -33,7 +33,6 @@ pub record IsRun (words : Words) (command : Command) : Type 0 where
   pub bounds : Limits
   pub words_are : words ≡ codes "run" ∷ file ∷ entry ∷ n ∷ strategy_word strategy ∷ d ∷ options
   pub command_is : command ≡ run_words runs strategy bounds budget seed (place_behind (codes "-after") 6 options)
-  pub served : IsServed strategy
   pub runs_is : IsNumber n (pos 1) (pos 1000000) (pos runs)
   pub depth_is : IsNumber d (pos 1) (pos 1024) (pos bounds.depth)
   pub named : AreNamed (run_options strategy) options
@@ -79,7 +78,7 @@ pub data Form (words : Words) (command : Command) : Type 0 where
   a_make : IsMake words command → Form words command
 
 pub form_of : (words : Words) (command : Command) → Accepted words command → Form words command
-form_of _ _ (run f e n d s o r b k l p x y z u v t w) = a_run (record { file = f; entry = e; n = n; d = d; options = o; strategy = s; runs = r; budget = b; seed = k; bounds = l; words_are = refl; command_is = refl; served = p; runs_is = x; depth_is = y; named = z; bounds_are = u; budget_is = v; seed_is = t; after_is = w })
+form_of _ _ (run f e n d s o r b k l x y z u v t w) = a_run (record { file = f; entry = e; n = n; d = d; options = o; strategy = s; runs = r; budget = b; seed = k; bounds = l; words_are = refl; command_is = refl; runs_is = x; depth_is = y; named = z; bounds_are = u; budget_is = v; seed_is = t; after_is = w })
 form_of _ _ (trace f e m o l z u v) = a_trace (record { file = f; entry = e; input = m; options = o; bounds = l; words_are = refl; command_is = refl; named = z; bounds_are = u; depth_is = v })
 form_of _ _ (replay f e t) = a_replay (record { file = f; entry = e; tests = t; words_are = refl; command_is = refl })
 form_of _ _ (make n k x) = a_make (record { n = n; branches = k; words_are = refl; command_is = refl; branches_are = x })
@@ -190,14 +189,14 @@ one : IsNumber text_of_one (pos 1) (pos 1000000) (pos 1)
 unfolding text_of_one
 one = record { text = refl; at_least = omega (arith, ints); at_most = omega (arith, ints) }
 
-pub accepted_run : (f e n d : List ℕ) (s : Strategy) → IsServed s → (options : Words) (runs depth : ℕ) → IsNumber n (pos 1) (pos 1000000) (pos runs) → IsNumber d (pos 1) (pos 1024) (pos depth) → Fits (run_options s) options
+pub accepted_run : (f e n d : List ℕ) (s : Strategy) → (options : Words) (runs depth : ℕ) → IsNumber n (pos 1) (pos 1000000) (pos runs) → IsNumber d (pos 1) (pos 1024) (pos depth) → Fits (run_options s) options
     → (command : Command) × Accepted (codes "run" ∷ f ∷ e ∷ n ∷ strategy_word s ∷ d ∷ options) command
-accepted_run f e n d s v options runs depth r t fits =
+accepted_run f e n d s options runs depth r t fits =
     let b = has_bounds (run_options s) (run_table s) options depth fits in
     let budget = given_natural options solver_option refl (option_given (run_options s) (run_table s) options fits (codes "-solver") solver_option.1 (solver_there s)) in
     let seed = has_seed s options fits in (
       run_words runs s b.0 budget.0 seed.0 (place_behind (codes "-after") 6 options),
-      run f e n d s options runs budget.0 seed.0 b.0 v r (subst (λ k. IsNumber d (pos 1) (pos 1024) (pos k)) (sym b.2) t) fits.named b.1 budget.1 seed.1 (has_path s options fits),
+      run f e n d s options runs budget.0 seed.0 b.0 r (subst (λ k. IsNumber d (pos 1) (pos 1024) (pos k)) (sym b.2) t) fits.named b.1 budget.1 seed.1 (has_path s options fits),
     )
 
 pub accepted_trace : (f e m : List ℕ) (options : Words) → Fits trace_options options → (command : Command) × Accepted (codes "trace" ∷ f ∷ e ∷ m ∷ options) command
@@ -206,10 +205,10 @@ accepted_trace f e m options fits =
     let b = has_bounds trace_options trace_table options depth.0 fits in
     (trace_words b.0, trace f e m options b.0 fits.named b.1 (subst (λ k. IsGiven options depth_option (pos k)) (sym b.2) depth.1))
 
-begins_run : (k : ℕ) (f e n d : List ℕ) (s : Strategy) → IsServed s → (runs depth : ℕ) → IsNumber n (pos 1) (pos 1000000) (pos runs) → IsNumber d (pos 1) (pos 1024) (pos depth)
+begins_run : (k : ℕ) (f e n d : List ℕ) (s : Strategy) → (runs depth : ℕ) → IsNumber n (pos 1) (pos 1000000) (pos runs) → IsNumber d (pos 1) (pos 1024) (pos depth)
     → Begins (take k (codes "run" ∷ f ∷ e ∷ n ∷ strategy_word s ∷ d ∷ []))
-begins_run k f e n d s v runs depth r t =
-    let a = accepted_run f e n d s v [] runs depth r t (fits_nothing (run_options s) (run_table s)) in
+begins_run k f e n d s runs depth r t =
+    let a = accepted_run f e n d s [] runs depth r t (fits_nothing (run_options s) (run_table s)) in
     begins_take (codes "run" ∷ f ∷ e ∷ n ∷ strategy_word s ∷ d ∷ []) k ([], a.0, a.1)
 
 begins_replay : (k : ℕ) (f e t : List ℕ) → Begins (take k (codes "replay" ∷ f ∷ e ∷ t ∷ []))
@@ -271,14 +270,14 @@ make_whole {l1} {l2} {w} {n} e1 r e2 =
 
 -- `run`: word 2 is any word; below, l1 is what stands behind word 1, and so on
 pub run_2 : {l1 : Words} → l1 ≡ [] → BadWord (codes "run" ∷ l1) 2
-run_2 {l1} none = bad_after (codes "run" ∷ []) [] (ap (λ (l : Words). codes "run" ∷ l) none) (begins_run 1 [] [] text_of_one text_of_one Dfs tt 1 1 one deep) (λ tail command g a. ended tail g command a)
+run_2 {l1} none = bad_after (codes "run" ∷ []) [] (ap (λ (l : Words). codes "run" ∷ l) none) (begins_run 1 [] [] text_of_one text_of_one Dfs 1 1 one deep) (λ tail command g a. ended tail g command a)
   where
     ended : (tail : Words) → GoesOn [] tail → (command : Command) → Accepted (codes "run" ∷ tail) command → ⊥
     ended _ ends command a = cc (run_of [] command a).words_are
 
 -- word 3 is any word
 pub run_3 : {l1 l2 : Words} {f : List ℕ} → l1 ≡ f ∷ l2 → l2 ≡ [] → BadWord (codes "run" ∷ l1) 3
-run_3 {l1} {l2} {f} e1 none = bad_after (codes "run" ∷ f ∷ []) [] (cc (e1, none)) (begins_run 2 f [] text_of_one text_of_one Dfs tt 1 1 one deep) (λ tail command g a. ended tail g command a)
+run_3 {l1} {l2} {f} e1 none = bad_after (codes "run" ∷ f ∷ []) [] (cc (e1, none)) (begins_run 2 f [] text_of_one text_of_one Dfs 1 1 one deep) (λ tail command g a. ended tail g command a)
   where
     ended : (tail : Words) → GoesOn [] tail → (command : Command) → Accepted (codes "run" ∷ f ∷ tail) command → ⊥
     ended _ ends command a = cc (run_of (f ∷ []) command a).words_are
@@ -287,7 +286,7 @@ run_3 {l1} {l2} {f} e1 none = bad_after (codes "run" ∷ f ∷ []) [] (cc (e1, n
 pub run_4 : {l1 l2 l3 : Words} {f e : List ℕ} → l1 ≡ f ∷ l2 → l2 ≡ e ∷ l3
     → ((w : List ℕ) (rest : Words) (n : ℕ) → l3 ≡ w ∷ rest → IsNumber w (pos 1) (pos 1000000) (pos n) → ⊥) → BadWord (codes "run" ∷ l1) 4
 run_4 {l1} {l2} {l3} {f} {e} e1 e2 none =
-    bad_after (codes "run" ∷ f ∷ e ∷ []) l3 (cc (e1, e2)) (begins_run 3 f e text_of_one text_of_one Dfs tt 1 1 one deep) (λ tail command g a. ended l3 tail g none command a)
+    bad_after (codes "run" ∷ f ∷ e ∷ []) l3 (cc (e1, e2)) (begins_run 3 f e text_of_one text_of_one Dfs 1 1 one deep) (λ tail command g a. ended l3 tail g none command a)
   where
     ended : (l tail : Words) → GoesOn l tail → ((w : List ℕ) (rest : Words) (n : ℕ) → l ≡ w ∷ rest → IsNumber w (pos 1) (pos 1000000) (pos n) → ⊥)
         → (command : Command) → Accepted (codes "run" ∷ f ∷ e ∷ tail) command → ⊥
@@ -299,22 +298,22 @@ run_4 {l1} {l2} {l3} {f} {e} e1 e2 none =
 
 -- word 5 is the strategy
 pub run_5 : {l1 l2 l3 l4 : Words} {f e w : List ℕ} {n : ℕ} → l1 ≡ f ∷ l2 → l2 ≡ e ∷ l3 → l3 ≡ w ∷ l4 → IsNumber w (pos 1) (pos 1000000) (pos n)
-    → ((s : Strategy) (rest : Words) → IsServed s → l4 ≡ strategy_word s ∷ rest → ⊥) → BadWord (codes "run" ∷ l1) 5
+    → ((s : Strategy) (rest : Words) → l4 ≡ strategy_word s ∷ rest → ⊥) → BadWord (codes "run" ∷ l1) 5
 run_5 {l1} {l2} {l3} {l4} {f} {e} {w} {n} e1 e2 e3 r none =
-    bad_after (codes "run" ∷ f ∷ e ∷ w ∷ []) l4 (cc (e1, e2, e3)) (begins_run 4 f e w text_of_one Dfs tt n 1 r deep) (λ tail command g a. ended l4 tail g none command a)
+    bad_after (codes "run" ∷ f ∷ e ∷ w ∷ []) l4 (cc (e1, e2, e3)) (begins_run 4 f e w text_of_one Dfs n 1 r deep) (λ tail command g a. ended l4 tail g none command a)
   where
-    ended : (l tail : Words) → GoesOn l tail → ((s : Strategy) (rest : Words) → IsServed s → l ≡ strategy_word s ∷ rest → ⊥) → (command : Command) → Accepted (codes "run" ∷ f ∷ e ∷ w ∷ tail) command → ⊥
+    ended : (l tail : Words) → GoesOn l tail → ((s : Strategy) (rest : Words) → l ≡ strategy_word s ∷ rest → ⊥) → (command : Command) → Accepted (codes "run" ∷ f ∷ e ∷ w ∷ tail) command → ⊥
     ended _ _ ends none command a = cc (run_of (f ∷ e ∷ w ∷ []) command a).words_are
     ended _ _ (word u more later) none command a =
         let r = run_of (f ∷ e ∷ w ∷ u ∷ later) command a in
         let same : u ≡ strategy_word r.strategy = cc r.words_are in
-        none r.strategy more r.served (ap (λ (m : List ℕ). m ∷ more) same)
+        none r.strategy more (ap (λ (m : List ℕ). m ∷ more) same)
 
 -- word 6 is the depth
-pub run_6 : (s : Strategy) → IsServed s → {l1 l2 l3 l4 l5 : Words} {f e w : List ℕ} {n : ℕ} → l1 ≡ f ∷ l2 → l2 ≡ e ∷ l3 → l3 ≡ w ∷ l4 → IsNumber w (pos 1) (pos 1000000) (pos n) → l4 ≡ strategy_word s ∷ l5
+pub run_6 : (s : Strategy) → {l1 l2 l3 l4 l5 : Words} {f e w : List ℕ} {n : ℕ} → l1 ≡ f ∷ l2 → l2 ≡ e ∷ l3 → l3 ≡ w ∷ l4 → IsNumber w (pos 1) (pos 1000000) (pos n) → l4 ≡ strategy_word s ∷ l5
     → ((u : List ℕ) (rest : Words) (n : ℕ) → l5 ≡ u ∷ rest → IsNumber u (pos 1) (pos 1024) (pos n) → ⊥) → BadWord (codes "run" ∷ l1) 6
-run_6 s v {l1} {l2} {l3} {l4} {l5} {f} {e} {w} {n} e1 e2 e3 r e4 none =
-    bad_after (codes "run" ∷ f ∷ e ∷ w ∷ strategy_word s ∷ []) l5 (cc (e1, e2, e3, e4)) (begins_run 5 f e w text_of_one s v n 1 r deep) (λ tail command g a. ended l5 tail g none command a)
+run_6 s {l1} {l2} {l3} {l4} {l5} {f} {e} {w} {n} e1 e2 e3 r e4 none =
+    bad_after (codes "run" ∷ f ∷ e ∷ w ∷ strategy_word s ∷ []) l5 (cc (e1, e2, e3, e4)) (begins_run 5 f e w text_of_one s n 1 r deep) (λ tail command g a. ended l5 tail g none command a)
   where
     ended : (l tail : Words) → GoesOn l tail → ((u : List ℕ) (rest : Words) (n : ℕ) → l ≡ u ∷ rest → IsNumber u (pos 1) (pos 1024) (pos n) → ⊥)
         → (command : Command) → Accepted (codes "run" ∷ f ∷ e ∷ w ∷ strategy_word s ∷ tail) command → ⊥
@@ -423,11 +422,11 @@ module _ (table : List Row) (fixed : Words) (build : (options : Words) → Fits 
               omega (arith, le, length-append fixed (take m options), length_take m options within)
 
 -- a bad word of the options of `run`
-pub run_bad : (s : Strategy) → IsServed s → {l1 l2 l3 l4 l5 l6 : Words} {f e w u : List ℕ} {n d m : ℕ} → l1 ≡ f ∷ l2 → l2 ≡ e ∷ l3 → l3 ≡ w ∷ l4 → IsNumber w (pos 1) (pos 1000000) (pos n) → l4 ≡ strategy_word s ∷ l5
+pub run_bad : (s : Strategy) → {l1 l2 l3 l4 l5 l6 : Words} {f e w u : List ℕ} {n d m : ℕ} → l1 ≡ f ∷ l2 → l2 ≡ e ∷ l3 → l3 ≡ w ∷ l4 → IsNumber w (pos 1) (pos 1000000) (pos n) → l4 ≡ strategy_word s ∷ l5
     → l5 ≡ u ∷ l6 → IsNumber u (pos 1) (pos 1024) (pos d) → IsBadAt (run_options s) l6 m → BadWord (codes "run" ∷ l1) (m + 7)
-run_bad s v {l1} {l2} {l3} {l4} {l5} {l6} {f} {e} {w} {u} {n} {d} {m} e1 e2 e3 r e4 e5 t b =
+run_bad s {l1} {l2} {l3} {l4} {l5} {l6} {f} {e} {w} {u} {n} {d} {m} e1 e2 e3 r e4 e5 t b =
     let whole : codes "run" ∷ l1 ≡ codes "run" ∷ f ∷ e ∷ w ∷ strategy_word s ∷ u ∷ l6 = cc (e1, e2, e3, e4, e5) in
-    let bad : BadWord (codes "run" ∷ f ∷ e ∷ w ∷ strategy_word s ∷ u ∷ l6) (6 + m + 1) = bad_options (run_options s) (codes "run" ∷ f ∷ e ∷ w ∷ strategy_word s ∷ u ∷ []) (λ o h. accepted_run f e w u s v o n d r t h) (λ o c a. parsed o c a) l6 m b in
+    let bad : BadWord (codes "run" ∷ f ∷ e ∷ w ∷ strategy_word s ∷ u ∷ l6) (6 + m + 1) = bad_options (run_options s) (codes "run" ∷ f ∷ e ∷ w ∷ strategy_word s ∷ u ∷ []) (λ o h. accepted_run f e w u s o n d r t h) (λ o c a. parsed o c a) l6 m b in
     subst (λ (ws : Words). BadWord ws (m + 7)) (sym whole) (subst (BadWord (codes "run" ∷ f ∷ e ∷ w ∷ strategy_word s ∷ u ∷ l6)) (omega arith) bad)
   where
     parsed : (o : Words) (command : Command) → Accepted (codes "run" ∷ f ∷ e ∷ w ∷ strategy_word s ∷ u ∷ o) command → Fits (run_options s) o
@@ -453,12 +452,12 @@ trace_bad {l1} {l2} {l3} {l4} {f} {e} {w} {m} e1 e2 e3 b =
 
 -- ---- the whole list
 
-pub run_whole : (s : Strategy) → IsServed s → {l1 l2 l3 l4 l5 l6 : Words} {f e w u : List ℕ} {n budget seed : ℕ} {bounds : Limits} → l1 ≡ f ∷ l2 → l2 ≡ e ∷ l3 → l3 ≡ w ∷ l4 → IsNumber w (pos 1) (pos 1000000) (pos n) → l4 ≡ strategy_word s ∷ l5
+pub run_whole : (s : Strategy) → {l1 l2 l3 l4 l5 l6 : Words} {f e w u : List ℕ} {n budget seed : ℕ} {bounds : Limits} → l1 ≡ f ∷ l2 → l2 ≡ e ∷ l3 → l3 ≡ w ∷ l4 → IsNumber w (pos 1) (pos 1000000) (pos n) → l4 ≡ strategy_word s ∷ l5
     → l5 ≡ u ∷ l6 → IsNumber u (pos 1) (pos 1024) (pos bounds.depth) → AreNamed (run_options s) l6 → AreBounds l6 bounds → IsGiven l6 solver_option (pos budget) → IsSeed l6 seed → IsFine PathText (behind (codes "-after") l6)
     → Accepted (codes "run" ∷ l1) (run_words n s bounds budget seed (place_behind (codes "-after") 6 l6))
-run_whole s v {l1} {l2} {l3} {l4} {l5} {l6} {f} {e} {w} {u} {n} {budget} {seed} {bounds} e1 e2 e3 r e4 e5 t a g b k p =
+run_whole s {l1} {l2} {l3} {l4} {l5} {l6} {f} {e} {w} {u} {n} {budget} {seed} {bounds} e1 e2 e3 r e4 e5 t a g b k p =
     let whole : codes "run" ∷ l1 ≡ codes "run" ∷ f ∷ e ∷ w ∷ strategy_word s ∷ u ∷ l6 = cc (e1, e2, e3, e4, e5) in
-    subst (λ (ws : Words). Accepted ws (run_words n s bounds budget seed (place_behind (codes "-after") 6 l6))) (sym whole) (run f e w u s l6 n budget seed bounds v r t a g b k p)
+    subst (λ (ws : Words). Accepted ws (run_words n s bounds budget seed (place_behind (codes "-after") 6 l6))) (sym whole) (run f e w u s l6 n budget seed bounds r t a g b k p)
 
 pub trace_whole : {l1 l2 l3 l4 : Words} {f e w : List ℕ} {bounds : Limits} → l1 ≡ f ∷ l2 → l2 ≡ e ∷ l3 → l3 ≡ w ∷ l4 → AreNamed trace_options l4 → AreBounds l4 bounds → IsGiven l4 depth_option (pos bounds.depth)
     → Accepted (codes "trace" ∷ l1) (trace_words bounds)

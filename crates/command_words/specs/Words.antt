@@ -147,13 +147,6 @@ strategy_word Random = codes "-random"
 strategy_word UniformRandom = codes "-uniform_random"
 strategy_word Cfg = codes "-cfg"
 
--- the strategies that are served so far
-abbrev pub IsServed : Strategy → Type 0
-IsServed Dfs = Unit {0}
-IsServed Random = ⊥
-IsServed UniformRandom = ⊥
-IsServed Cfg = ⊥
-
 -- the command of `run FILE ENTRY N STRATEGY D` and options; `after` is the number of the word PATH, where `-after` is given
 abbrev pub run_words : ℕ → Strategy → Limits → ℕ → ℕ → Option ℕ → Command
 run_words runs strategy bounds budget seed after = Run (record { file = 2; entry = 3; runs = runs; strategy = strategy; bounds = bounds; budget = budget; seed = seed; after = after })
@@ -167,7 +160,6 @@ pub data Accepted : List (List ℕ) → Command → Type 0 where
   -- run FILE ENTRY N STRATEGY D and options: FILE and ENTRY are any words, N is from 1 to 1,000,000, and D from 1 to 1,024; the
   -- options are those of the strategy, each at most once
   run : (file entry n d : List ℕ) (strategy : Strategy) (options : List (List ℕ)) (runs budget seed : ℕ) (bounds : Limits)
-      → IsServed strategy
       → IsNumber n (pos 1) (pos 1000000) (pos runs)
       → IsNumber d (pos 1) (pos 1024) (pos bounds.depth)
       → AreNamed (run_options strategy) options

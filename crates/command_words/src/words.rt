@@ -2,7 +2,7 @@
 
 ghost use Rattle.std.specs.Prelude.{◌≡◌, ℕ, ◌^◌, ◌<◌, ◌≤◌, ◌≤ℤ◌, ℤ, pos, List, [], ◌∷◌, All, map, IsTrue, IfOk, IfErr, IfSome, IfNone, codes, Some, Ok, Err, take, drop, length, ◌+◌};
 ghost use Rattle.std.specs.Fmt.{signed_decimal};
-ghost use Rattle.command_words.specs.Words.{texts, IsNumber, IsWide, IsPath, IsValue, Accepted, BadWord, takes_of, behind, place_behind, IsGiven, IsSeed, min_option, max_option, AreBounds, search_options, walk_options, run_options, trace_options, strategy_word, IsServed};
+ghost use Rattle.command_words.specs.Words.{texts, IsNumber, IsWide, IsPath, IsValue, Accepted, BadWord, takes_of, behind, place_behind, IsGiven, IsSeed, min_option, max_option, AreBounds, search_options, walk_options, run_options, trace_options, strategy_word};
 ghost use Rattle.command_words.specs.Options.{seen, IsTable, Fits, IsBadAt};
 ghost use Rattle.cc_base.specs.Limits.{Limits};
 ghost use Rattle.cc_base.specs.Outcomes.{byte_of, HasByte};
@@ -450,17 +450,24 @@ fn behind_number(words: &[String], high: i32) -> Option<NumberAndRest<'_>>
     })
 }
 
-/// The strategy whose word this is; None exactly where there is none that is served.
+/// The strategy whose word this is; None exactly where there is none.
 fn strategy_of(word: &str) -> Option<Strategy>
     ensures some { IfSome result (λ s. word.now ≡ strategy_word s) }
-    ensures served { IfSome result (λ s. IsServed s) }
-    ensures none { IfNone result ((s : Choosing) → IsServed s → word.now ≡ strategy_word s → ⊥) }
+    ensures none { IfNone result ((s : Choosing) → word.now ≡ strategy_word s → ⊥) }
 {
     if word == "-dfs" {
-        Some(Strategy::Dfs)
-    } else {
-        None
+        return Some(Strategy::Dfs);
     }
+    if word == "-random" {
+        return Some(Strategy::Random);
+    }
+    if word == "-uniform_random" {
+        return Some(Strategy::UniformRandom);
+    }
+    if word == "-cfg" {
+        return Some(Strategy::Cfg);
+    }
+    None
 }
 
 /// A strategy, and the words behind it.
@@ -473,8 +480,7 @@ struct StrategyAndRest<'a> {
 /// The strategy that the first word is, and the words behind it; None where it is none.
 fn behind_strategy(words: &[String]) -> Option<StrategyAndRest<'_>>
     ensures some { IfSome result (λ r. texts words.now ≡ strategy_word r.strategy ∷ texts r.rest.now) }
-    ensures served { IfSome result (λ r. IsServed r.strategy) }
-    ensures none { IfNone result ((s : Choosing) (rest : List (List ℕ)) → IsServed s → texts words.now ≡ strategy_word s ∷ rest → ⊥) }
+    ensures none { IfNone result ((s : Choosing) (rest : List (List ℕ)) → texts words.now ≡ strategy_word s ∷ rest → ⊥) }
 {
     let Some(first) = first_of(words) else {
         return None;
@@ -611,12 +617,13 @@ fn read(words: &[String]) -> Result<Command, u32>
 
 /// The command that the words of a command line give, the program's name left out.
 ///
-/// The forms are `run FILE ENTRY N -dfs D` and `trace FILE ENTRY MAP`, with options behind them, `replay FILE ENTRY TESTS`, and
-/// `make N`. FILE, ENTRY, MAP and TESTS are any words, N of `run` is from 1 to 1,000,000, D and N of `make` from 1 to 1,024. The
-/// options stand in any order, each at most once and each with a word behind it: `-min` and `-max` any number of 32 bits, the
-/// first at most the second, where they are not given the least and the greatest; `-objects` 1 to 25, else 8; `-steps` 1 to
-/// 1,000,000, else 100,000; for `run` also `-solver` 1 to 100,000,000, else 20,000, and `-after` one or more of the outcomes' bytes
-/// `! + - . F T a..z`, or `~`; for `trace` `-depth` 1 to 1,024, else 1,024.
+/// The forms are `run FILE ENTRY N STRATEGY D` and `trace FILE ENTRY MAP`, with options behind them, `replay FILE ENTRY TESTS`,
+/// and `make N`. STRATEGY is `-dfs`, or one of the walks `-random`, `-uniform_random` and `-cfg`. FILE, ENTRY, MAP and TESTS are
+/// any words, N of `run` is from 1 to 1,000,000, D and N of `make` from 1 to 1,024. The options stand in any order, each at most
+/// once and each with a word behind it: `-min` and `-max` any number of 32 bits, the first at most the second, where they are not
+/// given the least and the greatest; `-objects` 1 to 25, else 8; `-steps` 1 to 1,000,000, else 100,000; for `run` also `-solver`
+/// 1 to 100,000,000, else 20,000; with `-dfs` `-after` one or more of the outcomes' bytes `! + - . F T a..z`, or `~`; with a walk
+/// `-seed` any number of 64 bits without a sign, else 0; for `trace` `-depth` 1 to 1,024, else 1,024.
 /// A number is decimal, without a plus, without leading zeros, and 0 has no minus.
 ///
 /// An error is the number of the bad word, from 1: the least n such that the first n words begin no accepted list, or

@@ -14,4 +14,6 @@ mod traces;
 #[cfg(test)]
 mod turns;
 #[cfg(test)]
+mod walks;
+#[cfg(test)]
 mod words;

@@ -24,13 +24,13 @@ returns-in_default-behind_strategy-clause-bad c =
 pub returns-in_default-behind_number-2-clause-bad : goal.returns-in_default-behind_number-2-clause-bad
 returns-in_default-behind_number-2-clause-bad c =
     let runs = c.in-Some-behind_number.ensures.some in
-    run_6 c.in-Some-behind_strategy.chosen.strategy c.in-Some-behind_strategy.ensures.served c.in-Some.ensures.some c.in-Some-first_of.ensures.some runs.1 runs.2 c.in-Some-behind_strategy.ensures.some c.in_default-behind_number-2.ensures.none
+    run_6 c.in-Some-behind_strategy.chosen.strategy c.in-Some.ensures.some c.in-Some-first_of.ensures.some runs.1 runs.2 c.in-Some-behind_strategy.ensures.some c.in_default-behind_number-2.ensures.none
 
 pub returns-in-Some-bad_run_option-clause-bad : goal.returns-in-Some-bad_run_option-clause-bad
 returns-in-Some-bad_run_option-clause-bad c =
     let runs = c.in-Some-behind_number.ensures.some in
     let depth = c.in-Some-behind_number-2.ensures.some in
-    run_bad c.in-Some-behind_strategy.chosen.strategy c.in-Some-behind_strategy.ensures.served c.in-Some.ensures.some c.in-Some-first_of.ensures.some runs.1 runs.2 c.in-Some-behind_strategy.ensures.some depth.1 depth.2 c.in-Some-bad_run_option.ensures.some
+    run_bad c.in-Some-behind_strategy.chosen.strategy c.in-Some.ensures.some c.in-Some-first_of.ensures.some runs.1 runs.2 c.in-Some-behind_strategy.ensures.some depth.1 depth.2 c.in-Some-bad_run_option.ensures.some
 
 -- the options fit
 pub bounds_with-requires-clause-given : goal.bounds_with-requires-clause-given
@@ -53,5 +53,5 @@ returns-clause-accepted c =
     let runs = c.in-Some-behind_number.ensures.some in
     let depth = c.in-Some-behind_number-2.ensures.some in
     subst (λ a. Accepted (codes "run" ∷ texts c.args.words.now) (run_words c.in-Some-behind_number.runs.number c.in-Some-behind_strategy.chosen.strategy c.bounds_with.result c.natural_given.result c.seed_given.result a)) (sym c.place_behind.ensures)
-    (run_whole c.in-Some-behind_strategy.chosen.strategy c.in-Some-behind_strategy.ensures.served c.in-Some.ensures.some c.in-Some-first_of.ensures.some runs.1 runs.2 c.in-Some-behind_strategy.ensures.some depth.1
+    (run_whole c.in-Some-behind_strategy.chosen.strategy c.in-Some.ensures.some c.in-Some-first_of.ensures.some runs.1 runs.2 c.in-Some-behind_strategy.ensures.some depth.1
     (subst (λ k. IsNumber depth.0 (pos 1) (pos 1024) (pos k)) (sym c.bounds_with.ensures.depth) depth.2) c.in_default-bad_run_option.ensures.none.named c.bounds_with.ensures.bounds c.natural_given.ensures (let k = has_seed c.in-Some-behind_strategy.chosen.strategy (texts c.in-Some-behind_number-2.depth.rest.now) c.in_default-bad_run_option.ensures.none in subst (IsSeed (texts c.in-Some-behind_number-2.depth.rest.now)) (sym (c.seed_given.ensures k.0 k.1)) k.1) (has_path c.in-Some-behind_strategy.chosen.strategy (texts c.in-Some-behind_number-2.depth.rest.now) c.in_default-bad_run_option.ensures.none))

@@ -1,0 +1,17 @@
+pub mod RowLaws
+pub mod OnLaws
+pub mod FlowLaws
+pub mod LayerLaws
+pub mod StepLaws
+pub mod InsertLaws
+pub mod TermLaws
+pub mod PathLaws
+pub mod FirstLaws
+pub mod TraceLaws
+pub mod ChoiceLaws
+pub mod MadeLaws
+pub mod CoverLaws
+pub mod TakeLaws
+pub mod EndLaws
+pub mod FollowLaws
+pub mod LoggedLaws

@@ -1,0 +1,17 @@
+pub mod Draws
+pub mod Distance
+pub mod Setting
+pub mod Walks
+pub mod Output
+pub mod Rows
+pub mod Backwards
+pub mod Layers
+pub mod Inserting
+pub mod Terms
+pub mod Offers
+pub mod Task
+pub mod Made
+pub mod Covering
+pub mod Counted
+pub mod Steps
+pub mod Logged

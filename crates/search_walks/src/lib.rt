@@ -1,0 +1,26 @@
+//! The three walks over the runs of a tested function: random branch, uniform random, control-flow directed.
+#![tactic(auto)]
+
+mod candidates;
+mod choices;
+mod covering;
+mod distance;
+mod draws;
+mod fault;
+mod flow;
+mod lines;
+mod log;
+mod paths;
+mod rows;
+mod runs;
+mod task;
+mod terms;
+mod walks;
+
+pub use distance::distances;
+pub use fault::SearchFault;
+pub use log::WalkSummary;
+pub use walks::{cfg_directed, random_branch, uniform_random};
+
+#[cfg(test)]
+mod tests;
