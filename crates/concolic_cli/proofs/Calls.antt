@@ -5,6 +5,7 @@ use Rattle.cc_base.specs.Limits.{Limits}
 use Rattle.cc_model.specs.Core.{Program}
 use Rattle.cc_base.specs.Paths.{Path, In}
 use Rattle.cc_model.specs.declared.commands.Command.TheVariants.{Make}
+use Rattle.cc_model.specs.declared.commands.Strategy.{Strategy}
 use Rattle.cc_model.specs.Listing.{counts_of}
 use Rattle.cc_model.specs.Report.{newline, total, has_fault, is_fault}
 use Rattle.cc_model.specs.Runs.{end_at}
@@ -20,7 +21,7 @@ use Rattle.concolic_cli.specs.Session.{Wrote, WroteFirst, Stands, nothing, Cause
 use Rattle.concolic_cli.specs.Sources.{Refuses}
 use Rattle.cc_outside.specs.Held.{Held}
 use Rattle.replay.specs.ReplayText.{Written, all_real, one_real, one_differs}
-use Rattle.concolic_cli.specs.Tasks.{Task, Work, list, trace, replay, Asks, IsReport, RefusesTask}
+use Rattle.concolic_cli.specs.Tasks.{Task, Work, list, walk, trace, replay, Asks, IsReport, RefusesTask}
 use Rattle.command_words.specs.Words.{Accepted, BadWord}
 
 -- ---- the status of a report
@@ -68,10 +69,14 @@ list_status held bytes entry b runs budget after text status h = verdict_in (nat
 
 pub report_status : (held : Option Held) (bytes entry : List ℕ) (w : Work) (text : List ℕ) (status : ℕ) → IsReport held bytes entry w text status → In status reports
 report_status held bytes entry (list b runs budget after) text status h = listed_in status (list_status held bytes entry b runs budget after text status h)
+report_status held bytes entry (walk strategy b runs budget seed) text status h = small_in status (run_in (h.summary).fault status h.verdict)
 report_status held bytes entry (trace b map) text status h = small_in status (run_in (is_fault (end_at h.program b h.input)) status h.verdict)
 report_status held bytes entry (replay tests) text status h = replay_in status (replay_status h.program h.bounds (length h.all) h.all h.lines text status h.written)
 
--- a run that is told, and a replay, have no other status
+-- a walk, a run that is told, and a replay have no other status
+pub walk_status : (held : Option Held) (bytes entry : List ℕ) (strategy : Strategy) (b : Limits) (runs budget seed : ℕ) (text : List ℕ) (status : ℕ) → IsReport held bytes entry (walk strategy b runs budget seed) text status → status ≤ 1
+walk_status held bytes entry strategy b runs budget seed text status h = run_in (h.summary).fault status h.verdict
+
 pub trace_status : (held : Option Held) (bytes entry : List ℕ) (b : Limits) (map text : List ℕ) (status : ℕ) → IsReport held bytes entry (trace b map) text status → status ≤ 1
 trace_status held bytes entry b map text status h = run_in (is_fault (end_at h.program b h.input)) status h.verdict
 
@@ -174,6 +179,7 @@ module _ (call : Call) (status : ℕ) (task : Task) (a : Asks call.words task) w
   at_map : (w : Work) → task.work ≡ w → (f : MapFault) → (bytes : List ℕ) → ReadAs (call.seen).held task.file bytes → SourceCause bytes task.entry w (refusal.Map f) → (call.seen).out_new ≡ (call.seen).out_old →
       (status ≡ 3) × Said (map_text_of f) → Ending call status
   at_map (list b runs budget after) e f bytes read c silent h = absurd c
+  at_map (walk strategy b runs budget seed) e f bytes read c silent h = absurd c
   at_map (replay tests) e f bytes read c silent h = absurd c
   at_map (trace b map) e f bytes read c silent h = at_work (trace b map) e (refusal.Map f) _ bytes read (inr (f, c, refl)) silent h
 

@@ -6,10 +6,11 @@ use Rattle.cc_base.specs.Paths.{Path}
 use Rattle.cc_model.specs.declared.commands.Command.{Command}
 use Rattle.cc_model.specs.declared.commands.Command.TheVariants.{Run, Trace, Replay, Make}
 use Rattle.cc_model.specs.declared.commands.Strategy.{Strategy}
+use Rattle.cc_model.specs.declared.commands.Strategy.TheVariants.{Dfs}
 use Rattle.cc_model.specs.declared.commands.RunWords.{RunWords}
 use Rattle.cc_model.specs.declared.commands.TraceWords.{TraceWords}
 use Rattle.cc_model.specs.declared.commands.ReplayWords.{ReplayWords}
-use Rattle.concolic_cli.specs.Tasks.{Task, Asks, asks_list, asks_trace, asks_replay, word_of, text_or_none, IsPathOf, IsAfter, list_task, trace_task, replay_task}
+use Rattle.concolic_cli.specs.Tasks.{Task, Asks, asks_list, asks_walk, asks_trace, asks_replay, word_of, text_or_none, IsPathOf, IsAfter, list_task, walk_task, trace_task, replay_task}
 use Rattle.command_words.specs.Words.{Accepted, IsPath, behind, place_behind, run_words, strategy_word}
 use Rattle.command_words.proofs.Forms.{IsRun, Form, a_run, a_trace, a_replay, a_make, form_of}
 use Rattle.command_words.proofs.PathWords.{one_path, found_behind, fine_path}
@@ -99,37 +100,58 @@ one_after words r a b g h = one_path_of (option_map (λ n. word_of words n) r.af
 abbrev pub OneCommand : Type 0
 OneCommand = (words : List (List ℕ)) (first second : Command) → Accepted words first → Accepted words second → first ≡ second
 
-pub of_list : OneCommand → (words : List (List ℕ)) (k : Task) (r : RunWords) (a : Option Path) → Asks words k → Accepted words (Run r) → IsAfter words r a → k ≡ list_task words r a
-of_list one words _ r a (asks_list s b c d) g h =
+pub of_list : OneCommand → (words : List (List ℕ)) (k : Task) (r : RunWords) (a : Option Path) → Asks words k → Accepted words (Run r) → r.strategy ≡ Dfs → IsAfter words r a → k ≡ list_task words r a
+of_list one words _ r a (asks_list s b c w d) g v h =
     let e = one words (Run s) (Run r) c g in
     let f : s ≡ r = cc e in
     let same : b ≡ a = one_after words r b a (subst (λ u. IsAfter words u b) f d) h in
     ap (λ u. list_task words u b) f ∙ ap (λ u. list_task words r u) same
-of_list one words _ r a (asks_replay t c) g h = let e = one words (Replay t) (Run r) c g in absurd (cc e)
-of_list one words _ r a (asks_trace t c) g h = let e = one words (Trace t) (Run r) c g in absurd (cc e)
+of_list one words _ r a (asks_walk s c n) g v h =
+    let e = one words (Run s) (Run r) c g in
+    let f : s ≡ r = cc e in
+    absurd (n (subst (λ (u : RunWords). u.strategy ≡ Dfs) (sym f) v))
+of_list one words _ r a (asks_replay t c) g v h = let e = one words (Replay t) (Run r) c g in absurd (cc e)
+of_list one words _ r a (asks_trace t c) g v h = let e = one words (Trace t) (Run r) c g in absurd (cc e)
+
+pub of_walk : OneCommand → (words : List (List ℕ)) (k : Task) (r : RunWords) → Asks words k → Accepted words (Run r) → (r.strategy ≡ Dfs → ⊥) → k ≡ walk_task words r
+of_walk one words _ r (asks_walk s c n) g v =
+    let e = one words (Run s) (Run r) c g in
+    let f : s ≡ r = cc e in
+    ap (λ u. walk_task words u) f
+of_walk one words _ r (asks_list s b c w d) g v =
+    let e = one words (Run s) (Run r) c g in
+    let f : s ≡ r = cc e in
+    absurd (v (subst (λ (u : RunWords). u.strategy ≡ Dfs) f w))
+of_walk one words _ r (asks_replay t c) g v = let e = one words (Replay t) (Run r) c g in absurd (cc e)
+of_walk one words _ r (asks_trace t c) g v = let e = one words (Trace t) (Run r) c g in absurd (cc e)
 
 pub of_trace : OneCommand → (words : List (List ℕ)) (k : Task) (t : TraceWords) → Asks words k → Accepted words (Trace t) → k ≡ trace_task words t
 of_trace one words _ t (asks_trace s b) a = let e = one words (Trace s) (Trace t) b a in let f : s ≡ t = cc e in ap (λ u. trace_task words u) f
 of_trace one words _ t (asks_replay s b) a = let e = one words (Replay s) (Trace t) b a in absurd (cc e)
-of_trace one words _ t (asks_list s b c d) a = let e = one words (Run s) (Trace t) c a in absurd (cc e)
+of_trace one words _ t (asks_list s b c w d) a = let e = one words (Run s) (Trace t) c a in absurd (cc e)
+of_trace one words _ t (asks_walk s c n) a = let e = one words (Run s) (Trace t) c a in absurd (cc e)
 
 pub of_replay : OneCommand → (words : List (List ℕ)) (k : Task) (t : ReplayWords) → Asks words k → Accepted words (Replay t) → k ≡ replay_task words t
 of_replay one words _ t (asks_replay s b) a = let e = one words (Replay s) (Replay t) b a in let f : s ≡ t = cc e in ap (λ u. replay_task words u) f
 of_replay one words _ t (asks_trace s b) a = let e = one words (Trace s) (Replay t) b a in absurd (cc e)
-of_replay one words _ t (asks_list s b c d) a = let e = one words (Run s) (Replay t) c a in absurd (cc e)
+of_replay one words _ t (asks_list s b c w d) a = let e = one words (Run s) (Replay t) c a in absurd (cc e)
+of_replay one words _ t (asks_walk s c n) a = let e = one words (Run s) (Replay t) c a in absurd (cc e)
 
 -- `make` asks for no task
 pub not_make : OneCommand → (words : List (List ℕ)) (k : Task) (n : ℕ) → Asks words k → Accepted words (Make n) → ⊥
-not_make one words _ n (asks_list s b c d) a = let e = one words (Run s) (Make n) c a in cc e
+not_make one words _ n (asks_list s b c w d) a = let e = one words (Run s) (Make n) c a in cc e
+not_make one words _ n (asks_walk s c v) a = let e = one words (Run s) (Make n) c a in cc e
 not_make one words _ n (asks_replay t b) a = let e = one words (Replay t) (Make n) b a in cc e
 not_make one words _ n (asks_trace t b) a = let e = one words (Trace t) (Make n) b a in cc e
 
 pub one_task : OneCommand → (words : List (List ℕ)) (k m : Task) → Asks words k → Asks words m → k ≡ m
-one_task one words k _ a (asks_list r b c d) = of_list one words k r b a c d
+one_task one words k _ a (asks_list r b c w d) = of_list one words k r b a c w d
+one_task one words k _ a (asks_walk r c n) = of_walk one words k r a c n
 one_task one words k _ a (asks_replay t b) = of_replay one words k t a b
 one_task one words k _ a (asks_trace t b) = of_trace one words k t a b
 
 pub has_command : (words : List (List ℕ)) (k : Task) → Asks words k → (c : Command) × Accepted words c
-has_command words _ (asks_list r b a d) = (Run r, a)
+has_command words _ (asks_list r b a w d) = (Run r, a)
+has_command words _ (asks_walk r a n) = (Run r, a)
 has_command words _ (asks_replay t a) = (Replay t, a)
 has_command words _ (asks_trace t a) = (Trace t, a)

@@ -9,6 +9,8 @@ mod Sessions
 mod MadeText
 mod Causes
 mod Reports
+mod WalkLaws
+mod WalkTexts
 mod Commands
 mod Calls
 mod Promises

@@ -7,6 +7,8 @@ use Rattle.cc_base.specs.Paths.{Path, In}
 use Rattle.cc_model.specs.declared.commands.Command.TheVariants.{Run, Trace, Replay, Make}
 use Rattle.cc_model.specs.declared.commands.ReplayWords.{ReplayWords}
 use Rattle.cc_model.specs.declared.commands.RunWords.{RunWords}
+use Rattle.cc_model.specs.declared.commands.Strategy.{Strategy}
+use Rattle.cc_model.specs.declared.commands.Strategy.TheVariants.{Dfs}
 use Rattle.cc_model.specs.declared.commands.TraceWords.{TraceWords}
 use Rattle.cc_model.specs.declared.tokens.Token.{Token}
 use Rattle.cc_model.specs.declared.trees.Program as source_program
@@ -32,11 +34,11 @@ use Rattle.concolic_cli.specs.Refusals.{bad_word_text, Says}
 use Rattle.concolic_cli.specs.Loaded.{source_limit, tests_limit, ReadAs, ReadTests}
 use Rattle.concolic_cli.specs.Session.{Wrote, nothing, part, WroteLast, LastStands, no_line, first_part}
 use Rattle.concolic_cli.specs.Sources.{Refuses, lexical, syntax, too_deep, fault, no_entry}
-use Rattle.concolic_cli.specs.Tasks.{Task, Work, list, trace, replay, Asks, asks_list, asks_trace, asks_replay, IsAfter, word_of, list_task, trace_task, replay_task, ReplaysAs, IsReport, MayStand, MakesAs, RefusesTask}
+use Rattle.concolic_cli.specs.Tasks.{Task, Work, list, walk, trace, replay, Asks, asks_list, asks_walk, asks_trace, asks_replay, IsAfter, word_of, list_task, walk_task, trace_task, replay_task, ReplaysAs, IsReport, MayStand, MakesAs, RefusesTask}
 use Rattle.command_words.specs.Words.{Accepted, BadWord}
 use Rattle.replay.specs.Files.{IsTestsFile, IsRefusedAt}
-use Rattle.concolic_cli.proofs.Calls.{Ending, at_words, at_report, at_source, at_file, at_output, at_memory, at_make, MakeEnding, at_line, at_made_source, at_made_output, at_made_memory, make_status, not_made, apart, reports, listed_in, run_in, small_of, small_in, list_status, trace_status, replayed_status}
-use Rattle.concolic_cli.proofs.Commands.{OneCommand, of_list, of_trace, of_replay, one_task, not_make, has_after, has_command}
+use Rattle.concolic_cli.proofs.Calls.{Ending, at_words, at_report, at_source, at_file, at_output, at_memory, at_make, MakeEnding, at_line, at_made_source, at_made_output, at_made_memory, make_status, not_made, apart, reports, listed_in, run_in, small_of, small_in, list_status, walk_status, trace_status, replayed_status}
+use Rattle.concolic_cli.proofs.Commands.{OneCommand, of_list, of_walk, of_trace, of_replay, one_task, not_make, has_after, has_command}
 use Rattle.concolic_cli.proofs.Searches.{runs_of}
 
 -- ---- a source is no program and a refusal at once
@@ -68,19 +70,25 @@ unrefused one bytes entry p _ i (no_entry tokens tree h read well none) = let bo
 -- what is written is written for a program
 reported_unrefused : OneProgram → (held : Option Held) (bytes entry : List ℕ) (w : Work) (text other : List ℕ) (status : ℕ) → IsReport held bytes entry w text status → Refuses bytes entry other → ⊥
 reported_unrefused one held bytes entry (list b runs budget after) text other status h r = unrefused one bytes entry h.program other h.source r
+reported_unrefused one held bytes entry (walk strategy b runs budget seed) text other status h r = unrefused one bytes entry h.program other h.source r
 reported_unrefused one held bytes entry (trace b map) text other status h r = unrefused one bytes entry h.program other h.source r
 reported_unrefused one held bytes entry (replay tests) text other status h r = unrefused one bytes entry h.program other h.source r
 
 -- nor does a part of it stand
 cut_unrefused : OneProgram → (held : Option Held) (bytes entry : List ℕ) (w : Work) (text other : List ℕ) → MayStand held bytes entry w text → Refuses bytes entry other → ⊥
 cut_unrefused one held bytes entry (list b runs budget after) text other h r = unrefused one bytes entry h.program other h.source r
+cut_unrefused one held bytes entry (walk strategy b runs budget seed) text other h r = unrefused one bytes entry h.program other h.source r
 cut_unrefused one held bytes entry (trace b map) text other h r = unrefused one bytes entry (h.1).program other (h.1).source r
 cut_unrefused one held bytes entry (replay tests) text other h r = unrefused one bytes entry (h.1).program other (h.1).source r
 
--- a program is listed, and one with an input of the map text is traced
+-- a program is listed and walked, and one with an input of the map text is traced
 list_unrefused : OneProgram → (held : Option Held) (bytes entry : List ℕ) (b : Limits) (runs budget : ℕ) (after : Option Path) (text : List ℕ) (p : Program) → IsProgram bytes entry p → RefusesTask held bytes entry (list b runs budget after) text → ⊥
 list_unrefused one held bytes entry b runs budget after text p i (inl r) = unrefused one bytes entry p text i r
 list_unrefused one held bytes entry b runs budget after text p i (inr r) = r
+
+walk_unrefused : OneProgram → (held : Option Held) (bytes entry : List ℕ) (strategy : Strategy) (b : Limits) (runs budget seed : ℕ) (text : List ℕ) (p : Program) → IsProgram bytes entry p → RefusesTask held bytes entry (walk strategy b runs budget seed) text → ⊥
+walk_unrefused one held bytes entry strategy b runs budget seed text p i (inl r) = unrefused one bytes entry p text i r
+walk_unrefused one held bytes entry strategy b runs budget seed text p i (inr r) = r
 
 trace_unrefused : OneProgram → (held : Option Held) (bytes entry : List ℕ) (b : Limits) (map text : List ℕ) (h : Input) → IsMap map h → IsSourceOf bytes entry (λ p. IsInput p b h) → RefusesTask held bytes entry (trace b map) text → ⊥
 trace_unrefused one held bytes entry b map text h m s (inl r) = unrefused one bytes entry s.program text s.source r
@@ -253,9 +261,9 @@ module _ (call : Call) (status : ℕ) (one : OneCommand) (answered : Ending call
   made_trace : (t : TraceWords) → Accepted call.words (Trace t) → LineWritten → ⊥
   made_trace t a m = let e = one call.words (Trace t) (Make m.n) a m.accepted in cc e
 
-  pub listed : (r : RunWords) (after : Option Path) → Accepted call.words (Run r) → IsAfter call.words r after → In status (0 ∷ 1 ∷ 10 ∷ 11 ∷ []) →
+  pub listed : (r : RunWords) (after : Option Path) → Accepted call.words (Run r) → r.strategy ≡ Dfs → IsAfter call.words r after → In status (0 ∷ 1 ∷ 10 ∷ 11 ∷ []) →
       Wrote (call.seen).held (call.seen).out_old (call.seen).out_new (list_task call.words r after) status
-  listed r after a f h = ⊎_elim (λ w. subst (λ k. Written k) (of_list one call.words w.task r after w.asked a f) w.wrote) (λ m. absurd (made_run r a m)) (wrote_of answered (listed_in status h))
+  listed r after a v f h = ⊎_elim (λ w. subst (λ k. Written k) (of_list one call.words w.task r after w.asked a v f) w.wrote) (λ m. absurd (made_run r a m)) (wrote_of answered (listed_in status h))
 
   made_replay : (r : ReplayWords) → Accepted call.words (Replay r) → LineWritten → ⊥
   made_replay r a m = let e = one call.words (Replay r) (Make m.n) a m.accepted in cc e
@@ -279,6 +287,15 @@ module _ (call : Call) (status : ℕ) (one : OneCommand) (answered : Ending call
   low_in : (status ≡ 0) ⊎ (status ≡ 1) → In status (0 ∷ 1 ∷ 10 ∷ 11 ∷ [])
   low_in (inl e) = inl e
   low_in (inr e) = inr (inl e)
+
+  walk_in : In status (0 ∷ 1 ∷ []) → In status reports
+  walk_in (inl e) = inl e
+  walk_in (inr (inl e)) = inr (inl e)
+  walk_in (inr (inr e)) = absurd e
+
+  pub walked : (r : RunWords) → Accepted call.words (Run r) → (r.strategy ≡ Dfs → ⊥) → In status (0 ∷ 1 ∷ []) →
+      Wrote (call.seen).held (call.seen).out_old (call.seen).out_new (walk_task call.words r) status
+  walked r a v h = ⊎_elim (λ w. subst (λ k. Written k) (of_walk one call.words w.task r w.asked a v) w.wrote) (λ m. absurd (made_run r a m)) (wrote_of answered (walk_in h))
 
   pub traced : (t : TraceWords) → Accepted call.words (Trace t) → status ≤ 1 →
       Wrote (call.seen).held (call.seen).out_old (call.seen).out_new (trace_task call.words t) status
@@ -310,8 +327,8 @@ module _ (call : Call) (status : ℕ) (one : OneCommand) (answered : Ending call
         verdict = l.verdict;
       }
 
-  pub headline : (r : RunWords) → Accepted call.words (Run r) → (status ≡ 0) ⊎ (status ≡ 1) → Headline call.words r (call.seen).held (call.seen).out_old (call.seen).out_new status
-  headline r a h = let f = has_after call.words r a in of_wrote f.0 f.1 (listed r f.0 a f.1 (low_in h))
+  pub headline : (r : RunWords) → Accepted call.words (Run r) → r.strategy ≡ Dfs → (status ≡ 0) ⊎ (status ≡ 1) → Headline call.words r (call.seen).held (call.seen).out_old (call.seen).out_new status
+  headline r a v h = let f = has_after call.words r a in of_wrote f.0 f.1 (listed r f.0 a v f.1 (low_in h))
     where
       of_wrote : (after : Option Path) → IsAfter call.words r after → Wrote (call.seen).held (call.seen).out_old (call.seen).out_new (list_task call.words r after) status →
           Headline call.words r (call.seen).held (call.seen).out_old (call.seen).out_new status
@@ -320,8 +337,8 @@ module _ (call : Call) (status : ℕ) (one : OneCommand) (answered : Ending call
           let none = total_zero (total (counts_of l.listing)) (has_fault (l.listing).items) status l.verdict (at_most_one h) in
           of_complete r after f w (all_zero (counts_of l.listing) none)
 
-  pub missed : (r : RunWords) → Accepted call.words (Run r) → In status (0 ∷ 1 ∷ 10 ∷ 11 ∷ []) → NothingMissedBut call.words r (call.seen).held (call.seen).out_old (call.seen).out_new status
-  missed r a h = let f = has_after call.words r a in of_wrote f.0 f.1 (listed r f.0 a f.1 h)
+  pub missed : (r : RunWords) → Accepted call.words (Run r) → r.strategy ≡ Dfs → In status (0 ∷ 1 ∷ 10 ∷ 11 ∷ []) → NothingMissedBut call.words r (call.seen).held (call.seen).out_old (call.seen).out_new status
+  missed r a v h = let f = has_after call.words r a in of_wrote f.0 f.1 (listed r f.0 a v f.1 h)
     where
       of_wrote : (after : Option Path) → IsAfter call.words r after → Wrote (call.seen).held (call.seen).out_old (call.seen).out_new (list_task call.words r after) status →
           NothingMissedBut call.words r (call.seen).held (call.seen).out_old (call.seen).out_new status
@@ -405,8 +422,11 @@ module _ (call : Call) (status : ℕ) (one : OneCommand) (answered : Ending call
   statuses = statuses_of answered
 
   -- of a list alone come 10 and 11
-  run_of : (k : Task) → Asks call.words k → Written k → 10 ≤ status → (r : RunWords) × Accepted call.words (Run r)
-  run_of _ (asks_list r after a f) w l = (r, a)
+  run_of : (k : Task) → Asks call.words k → Written k → 10 ≤ status → (r : RunWords) × Accepted call.words (Run r) × (r.strategy ≡ Dfs)
+  run_of _ (asks_list r after a v f) w l = (r, a, v)
+  run_of _ (asks_walk r a v) w l =
+      let s = walk_status (call.seen).held w.bytes (walk_task call.words r).entry r.strategy r.bounds r.runs r.budget r.seed w.text status w.report in
+      absurd (omega (arith, s, l))
   run_of _ (asks_trace t a) w l =
       let s = trace_status (call.seen).held w.bytes (trace_task call.words t).entry t.bounds (word_of call.words t.map) w.text status w.report in
       absurd (omega (arith, s, l))
@@ -423,7 +443,7 @@ module _ (call : Call) (status : ℕ) (one : OneCommand) (answered : Ending call
   made_low (inr (inr (inr (inl e)))) h = omega (arith, e, h)
   made_low (inr (inr (inr (inr e)))) h = e
 
-  alone_of : (e : Ending call status) → 10 ≤ status → (r : RunWords) × Accepted call.words (Run r)
+  alone_of : (e : Ending call status) → 10 ≤ status → (r : RunWords) × Accepted call.words (Run r) × (r.strategy ≡ Dfs)
   alone_of (at_words n b e s t) h = absurd (omega (arith, e, h))
   alone_of (at_report k a i w q) h = run_of k a w h
   alone_of (at_source e r q) h = absurd (omega (arith, e, h))
@@ -434,7 +454,10 @@ module _ (call : Call) (status : ℕ) (one : OneCommand) (answered : Ending call
 
   -- of a replay alone comes 8
   replay_of : (k : Task) → Asks call.words k → Written k → status ≡ 8 → (r : ReplayWords) × Accepted call.words (Replay r)
-  replay_of _ (asks_list r after a f) w e = absurd (no_eight (list_status (call.seen).held w.bytes (list_task call.words r after).entry r.bounds r.runs r.budget after w.text status w.report) e)
+  replay_of _ (asks_walk r a v) w e =
+      let s = walk_status (call.seen).held w.bytes (walk_task call.words r).entry r.strategy r.bounds r.runs r.budget r.seed w.text status w.report in
+      absurd (omega (arith, s, e))
+  replay_of _ (asks_list r after a v f) w e = absurd (no_eight (list_status (call.seen).held w.bytes (list_task call.words r after).entry r.bounds r.runs r.budget after w.text status w.report) e)
     where
       no_eight : In status (0 ∷ 1 ∷ 10 ∷ 11 ∷ []) → status ≡ 8 → ⊥
       no_eight (inl f) e = omega (arith, e, f)
@@ -457,7 +480,7 @@ module _ (call : Call) (status : ℕ) (one : OneCommand) (answered : Ending call
   pub replay_alone : status ≡ 8 → (r : ReplayWords) × Accepted call.words (Replay r)
   replay_alone = replay_alone_of answered
 
-  pub run_alone : 10 ≤ status → (r : RunWords) × Accepted call.words (Run r)
+  pub run_alone : 10 ≤ status → (r : RunWords) × Accepted call.words (Run r) × (r.strategy ≡ Dfs)
   run_alone = alone_of answered
 
   -- ---- which status comes
@@ -602,6 +625,9 @@ module _ (call : Call) (status : ℕ) (one : OneCommand) (answered : Ending call
   list_no_tests : {b : Limits} {n m : ℕ} {o : Option Path} {tests : List ℕ} → list b n m o ≡ replay tests → ⊥
   list_no_tests e = cc e
 
+  walk_no_tests : {s : Strategy} {b : Limits} {n m k : ℕ} {tests : List ℕ} → walk s b n m k ≡ replay tests → ⊥
+  walk_no_tests e = cc e
+
   pub refused_map : (t : TraceWords) (bytes : List ℕ) (f : MapFault) → Accepted call.words (Trace t) → IsSource (trace_task call.words t) (call.seen).held bytes →
       IsSourceOf bytes (trace_task call.words t).entry (λ p. Refused p t.bounds (word_of call.words t.map) f) → IsRefusal (call.seen).files_old (call.seen).files_new status
   refused_map t bytes f a i s =
@@ -612,31 +638,39 @@ module _ (call : Call) (status : ℕ) (one : OneCommand) (answered : Ending call
   listed_or (inr (inl e)) = inr (inl e)
   listed_or (inr (inr h)) = inr (inr (inr h))
 
-  pub answers_run : OneProgram → (r : RunWords) (after : Option Path) (bytes : List ℕ) (p : Program) → Accepted call.words (Run r) → IsAfter call.words r after →
+  pub answers_run : OneProgram → (r : RunWords) (after : Option Path) (bytes : List ℕ) (p : Program) → Accepted call.words (Run r) → r.strategy ≡ Dfs → IsAfter call.words r after →
       IsSource (list_task call.words r after) (call.seen).held bytes → IsProgram bytes (list_task call.words r after).entry p →
       (Rose (call.seen).files_old (call.seen).files_new → ⊥) → (Rose (call.seen).faults_old (call.seen).faults_new → ⊥) → In status (0 ∷ 1 ∷ 7 ∷ 10 ∷ 11 ∷ [])
-  answers_run law r after bytes p a names i is f o =
+  answers_run law r after bytes p a v names i is f o =
       ⊎_elim (λ e. inr (inr (inl e))) (λ w. listed_or (list_status (call.seen).held w.bytes (list_task call.words r after).entry r.bounds r.runs r.budget after w.text status w.report))
-      (report_of (list_task call.words r after) (asks_list r after a names) bytes i (λ tests w. absurd (list_no_tests w)) answered (λ text t. list_unrefused law (call.seen).held bytes (list_task call.words r after).entry r.bounds r.runs r.budget after text p is t) f o)
+      (report_of (list_task call.words r after) (asks_list r after a v names) bytes i (λ tests w. absurd (list_no_tests w)) answered (λ text t. list_unrefused law (call.seen).held bytes (list_task call.words r after).entry r.bounds r.runs r.budget after text p is t) f o)
 
-  pub complete : OneProgram → (r : RunWords) (after : Option Path) (bytes : List ℕ) (paths : List Path) → Accepted call.words (Run r) → IsAfter call.words r after →
+  pub complete : OneProgram → (r : RunWords) (after : Option Path) (bytes : List ℕ) (paths : List Path) → Accepted call.words (Run r) → r.strategy ≡ Dfs → IsAfter call.words r after →
       IsSource (list_task call.words r after) (call.seen).held bytes → IsSourceOf bytes (list_task call.words r after).entry (λ p. IsEasy p r.bounds r.budget × HoldsPaths p r.bounds after paths) →
       length paths + room after ≤ r.runs → (Rose (call.seen).files_old (call.seen).files_new → ⊥) → (Rose (call.seen).faults_old (call.seen).faults_new → ⊥) →
       (status ≡ 7) ⊎ Headline call.words r (call.seen).held (call.seen).out_old (call.seen).out_new status
-  complete law r after bytes paths a names i is few f o =
+  complete law r after bytes paths a v names i is few f o =
       ⊎_elim (λ e. inl e) (λ w. inr (of_complete r after names w (whole w)))
-      (report_of (list_task call.words r after) (asks_list r after a names) bytes i (λ tests w. absurd (list_no_tests w)) answered (λ text t. list_unrefused law (call.seen).held bytes (list_task call.words r after).entry r.bounds r.runs r.budget after text is.program is.source t) f o)
+      (report_of (list_task call.words r after) (asks_list r after a v names) bytes i (λ tests w. absurd (list_no_tests w)) answered (λ text t. list_unrefused law (call.seen).held bytes (list_task call.words r after).entry r.bounds r.runs r.budget after text is.program is.source t) f o)
     where
       whole : (w : Written (list_task call.words r after)) → IsComplete ((w.report).listing)
       whole w =
           let l = w.report in
-          let same = read_bytes (list_task call.words r after) (asks_list r after a names) bytes i w in
+          let same = read_bytes (list_task call.words r after) (asks_list r after a v names) bytes i w in
           let h = is.each l.program (subst (λ u. IsProgram u (list_task call.words r after).entry l.program) same l.source) in
           l.lists.complete h.0 paths h.1 few
 
   low_or : (status ≡ 7) ⊎ (status ≤ 1) → In status (0 ∷ 1 ∷ 7 ∷ [])
   low_or (inl e) = inr (inr (inl e))
   low_or (inr h) = ⊎_elim (λ e. inl e) (λ e. inr (inl e)) (small_of status h)
+
+  pub answers_walk : OneProgram → (r : RunWords) (bytes : List ℕ) (p : Program) → Accepted call.words (Run r) → (r.strategy ≡ Dfs → ⊥) →
+      IsSource (walk_task call.words r) (call.seen).held bytes → IsProgram bytes (walk_task call.words r).entry p →
+      (Rose (call.seen).files_old (call.seen).files_new → ⊥) → (Rose (call.seen).faults_old (call.seen).faults_new → ⊥) → In status (0 ∷ 1 ∷ 7 ∷ [])
+  answers_walk law r bytes p a v i is f o =
+      low_or (⊎_elim (λ e. inl e) (λ w. inr (walk_status (call.seen).held w.bytes (walk_task call.words r).entry r.strategy r.bounds r.runs r.budget r.seed w.text status w.report))
+      (report_of (walk_task call.words r) (asks_walk r a v) bytes i (λ tests w. absurd (walk_no_tests w)) answered
+      (λ text t. walk_unrefused law (call.seen).held bytes (walk_task call.words r).entry r.strategy r.bounds r.runs r.budget r.seed text p is t) f o))
 
   pub complete_trace : OneProgram → (t : TraceWords) (bytes : List ℕ) (h : Input) → Accepted call.words (Trace t) → IsSource (trace_task call.words t) (call.seen).held bytes →
       IsMap (word_of call.words t.map) h → IsSourceOf bytes (trace_task call.words t).entry (λ p. IsInput p t.bounds h) →

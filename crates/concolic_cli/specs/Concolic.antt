@@ -22,7 +22,7 @@ use Rattle.concolic_cli.specs.Loaded.{source_limit, tests_limit, ReadAs, IsMissi
 use Rattle.concolic_cli.specs.Refusals.{Names, bad_word_text, file_text, Says, IsAnswered}
 use Rattle.concolic_cli.specs.Session.{Seen, Wrote, Stands, Cause, WroteLast, LastStands, MadeCause}
 use Rattle.concolic_cli.specs.Sources.{Refuses}
-use Rattle.concolic_cli.specs.Tasks.{Task, Work, list, trace, replay, Asks, IsAfter, word_of, RefusesTask}
+use Rattle.concolic_cli.specs.Tasks.{Task, Work, list, walk, trace, replay, Asks, IsAfter, word_of, RefusesTask}
 use Rattle.command_words.specs.Words.{Accepted, BadWord}
 
 -- the words are no command
@@ -145,6 +145,7 @@ IsRefusal files_old files_new status = (status ≡ 3) ⊎ ((status ≡ 7) ⊎ ((
 -- the words that a text may name
 abbrev pub tests_of : Work → List ℕ
 tests_of (list b runs budget after) = []
+tests_of (walk strategy b runs budget seed) = []
 tests_of (trace b map) = []
 tests_of (replay tests) = tests
 

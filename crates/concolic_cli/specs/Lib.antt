@@ -5,10 +5,11 @@ pub mod Named
 pub mod Listings
 pub mod Made
 pub mod TraceText
-pub mod Tasks
-pub mod Session
 pub mod Programs
 pub mod Compiling
+pub mod WalkReports
+pub mod Tasks
+pub mod Session
 pub mod Prepared
 pub mod Replaying
 pub mod Concolic

@@ -17,7 +17,7 @@ use Rattle.concolic_cli.specs.Loaded.{source_limit, tests_limit, ReadAs, ReadTes
 use Rattle.cc_model.specs.Source.{IsProgram}
 use Rattle.cc_base.specs.declared.inputs.Test.{Test}
 use Rattle.replay.specs.Files.{IsTestsFile, IsRefusedAt}
-use Rattle.concolic_cli.specs.Tasks.{Task, Work, list, trace, replay, IsReport, MayStand, MakesAs, MapIsRefused}
+use Rattle.concolic_cli.specs.Tasks.{Task, Work, list, walk, trace, replay, IsReport, MayStand, MakesAs, MapIsRefused}
 
 -- the cause of a refusal of the file
 abbrev pub FileCause : Option Held → (faults_old faults_new : ℕ) → List ℕ → Refusal → Type 0
@@ -38,6 +38,7 @@ FileCause held old new file OutputFailed = ⊥
 -- the program is accepted, and the map text has the fault
 abbrev pub MapRefusedCause : (bytes entry : List ℕ) → Work → MapFault → Type 0
 MapRefusedCause bytes entry (list b runs budget after) f = ⊥
+MapRefusedCause bytes entry (walk strategy b runs budget seed) f = ⊥
 MapRefusedCause bytes entry (trace b map) f = MapIsRefused bytes entry b map f
 MapRefusedCause bytes entry (replay tests) f = ⊥
 

@@ -6,6 +6,8 @@ use Rattle.cc_base.specs.Limits.{Limits}
 use Rattle.cc_base.specs.Paths.{Path}
 use Rattle.cc_model.specs.declared.commands.Command.TheVariants.{Run, Trace, Replay}
 use Rattle.cc_model.specs.declared.commands.RunWords.{RunWords}
+use Rattle.cc_model.specs.declared.commands.Strategy.{Strategy}
+use Rattle.cc_model.specs.declared.commands.Strategy.TheVariants.{Dfs}
 use Rattle.cc_model.specs.declared.commands.TraceWords.{TraceWords}
 use Rattle.cc_model.specs.declared.commands.ReplayWords.{ReplayWords}
 use Rattle.cc_model.specs.Core.{Program}
@@ -26,14 +28,17 @@ use Rattle.concolic_cli.specs.Loaded.{ReadTests}
 use Rattle.concolic_cli.specs.Refusals.{map_text_of, tests_text}
 use Rattle.concolic_cli.specs.Sources.{Refuses}
 use Rattle.concolic_cli.specs.TraceText.{trace_text, CanBeTold}
+use Rattle.concolic_cli.specs.WalkReports.{WalksAs, WalksSome}
 use Rattle.command_words.specs.Words.{Accepted, IsPath}
 
 -- ---- tasks
 
 -- what is done with a program: its tests are listed, within bounds, by at most so many runs, with this budget for a solve, and
--- above a path where one is given; or its run on the input of a map text is told; or the tests of a file are replayed
+-- above a path where one is given; or its runs are walked through by a strategy, from the words of a seed's generator; or its run on
+-- the input of a map text is told; or the tests of a file are replayed
 pub data Work : Type 0 where
   list : (b : Limits) → (runs budget : ℕ) → (after : Option Path) → Work
+  walk : (strategy : Strategy) → (b : Limits) → (runs budget seed : ℕ) → Work
   trace : (b : Limits) → (map : List ℕ) → Work
   replay : (tests : List ℕ) → Work
 
@@ -64,6 +69,9 @@ IsAfter words r after = IsPathOf (option_map (λ n. word_of words n) r.after) af
 abbrev pub list_task : List (List ℕ) → RunWords → Option Path → Task
 list_task words r after = record { file = word_of words r.file; entry = word_of words r.entry; work = list r.bounds r.runs r.budget after }
 
+abbrev pub walk_task : List (List ℕ) → RunWords → Task
+walk_task words r = record { file = word_of words r.file; entry = word_of words r.entry; work = walk r.strategy r.bounds r.runs r.budget r.seed }
+
 abbrev pub trace_task : List (List ℕ) → TraceWords → Task
 trace_task words t = record { file = word_of words t.file; entry = word_of words t.entry; work = trace t.bounds (word_of words t.map) }
 
@@ -72,7 +80,8 @@ replay_task words r = record { file = word_of words r.file; entry = word_of word
 
 -- the words ask for the task, which is one on a file
 pub data Asks (words : List (List ℕ)) : Task → Type 0 where
-  asks_list : (r : RunWords) → (after : Option Path) → Accepted words (Run r) → IsAfter words r after → Asks words (list_task words r after)
+  asks_list : (r : RunWords) → (after : Option Path) → Accepted words (Run r) → r.strategy ≡ Dfs → IsAfter words r after → Asks words (list_task words r after)
+  asks_walk : (r : RunWords) → Accepted words (Run r) → (r.strategy ≡ Dfs → ⊥) → Asks words (walk_task words r)
   asks_trace : (t : TraceWords) → Accepted words (Trace t) → Asks words (trace_task words t)
   asks_replay : (r : ReplayWords) → Accepted words (Replay r) → Asks words (replay_task words r)
 
@@ -117,6 +126,7 @@ pub record ReplaysAs (held : Option Held) (bytes entry tests text : List ℕ) (s
 -- the text is what is written for the program that the bytes are, with this status
 abbrev pub IsReport : Option Held → (bytes entry : List ℕ) → Work → (text : List ℕ) → (status : ℕ) → Type 0
 IsReport held bytes entry (list b runs budget after) text status = ListsAs bytes entry b runs budget after text status
+IsReport held bytes entry (walk strategy b runs budget seed) text status = WalksAs bytes entry strategy b runs budget seed text status
 IsReport held bytes entry (trace b map) text status = TracesAs bytes entry b map text status
 IsReport held bytes entry (replay tests) text status = ReplaysAs held bytes entry tests text status
 
@@ -134,6 +144,7 @@ pub record ListsSome (bytes entry : List ℕ) (b : Limits) (after : Option Path)
 -- a text of which a first part may stand
 abbrev pub MayStand : Option Held → (bytes entry : List ℕ) → Work → (text : List ℕ) → Type 0
 MayStand held bytes entry (list b runs budget after) text = ListsSome bytes entry b after text
+MayStand held bytes entry (walk strategy b runs budget seed) text = WalksSome bytes entry strategy b runs budget seed text
 MayStand held bytes entry (trace b map) text = (status : ℕ) × TracesAs bytes entry b map text status
 MayStand held bytes entry (replay tests) text = (status : ℕ) × ReplaysAs held bytes entry tests text status
 
@@ -168,6 +179,7 @@ pub record TestsAreRefused (held : Option Held) (bytes entry tests : List ℕ) (
 -- an accepted program is refused for the work, with this text
 abbrev pub RefusesWork : Option Held → (bytes entry : List ℕ) → Work → (text : List ℕ) → Type 0
 RefusesWork held bytes entry (list b runs budget after) text = ⊥
+RefusesWork held bytes entry (walk strategy b runs budget seed) text = ⊥
 RefusesWork held bytes entry (trace b map) text = (f : MapFault) × MapIsRefused bytes entry b map f × (text ≡ map_text_of f)
 RefusesWork held bytes entry (replay tests) text = (line : ℕ) × TestsAreRefused held bytes entry tests line × (text ≡ tests_text line)
 

@@ -1,9 +1,10 @@
 //! The one call that does all that the program does.
 
-ghost use Rattle.std.specs.Prelude.{◌≡◌, ℕ, ◌^◌, ◌<◌, ◌≤◌, ◌+◌, ◌⊎◌, ◌↔◌, ◌++◌, ◌∷◌, List, [], length, codes, Option, Some, None, option_map};
+ghost use Rattle.std.specs.Prelude.{◌≡◌, ℕ, ◌^◌, ◌<◌, ◌≤◌, ◌+◌, ◌⊎◌, ◌↔◌, ◌++◌, ◌∷◌, Bool, true, false, List, [], length, codes, Option, Some, None, option_map};
 ghost use Rattle.cc_base.specs.declared.inputs.Input.{Input};
 ghost use Rattle.cc_base.specs.Paths.{Path, In};
 ghost use Rattle.cc_model.specs.declared.commands.RunWords.{RunWords};
+ghost use Rattle.cc_model.specs.declared.commands.Strategy.TheVariants.{Dfs};
 ghost use Rattle.cc_model.specs.declared.commands.TraceWords.{TraceWords};
 ghost use Rattle.cc_model.specs.declared.commands.ReplayWords.{ReplayWords};
 ghost use Rattle.replay.specs.Files.{IsRefusedAt};
@@ -25,15 +26,15 @@ ghost use Rattle.concolic_cli.specs.Refusals.{bad_word_text, Says};
 ghost use Rattle.concolic_cli.specs.ReportFiles.{WroteTestsFile, WroteTestFile};
 ghost use Rattle.concolic_cli.specs.Session.{Wrote, WroteLast};
 ghost use Rattle.concolic_cli.specs.Sources.{Refuses};
-ghost use Rattle.concolic_cli.specs.Tasks.{Task, Asks, IsAfter, word_of, list_task, trace_task, replay_task};
+ghost use Rattle.concolic_cli.specs.Tasks.{Task, Asks, IsAfter, word_of, list_task, walk_task, trace_task, replay_task};
 ghost use Rattle.command_words.specs.Words.{texts, Accepted, BadWord};
 
 use crate::answers::{Named, Status, refuse};
 use crate::making::write_made;
 use crate::refusal::Refusal;
-use crate::session::{list_tests, replay_file, tell_run};
+use crate::session::{list_tests, replay_file, tell_run, walk_runs};
 use c_parse::one_program;
-use cc_model::{Command, ReplayWords, RunWords, TraceWords};
+use cc_model::{Command, ReplayWords, RunWords, Strategy, TraceWords};
 use cc_outside::{Files, Sink};
 use command_words::{one_command, read_words};
 use std::alloc::Global;
@@ -69,6 +70,95 @@ fn named<'a>(file: &'a str, entry: &'a str) -> Named<'a>
     }
 }
 
+/// Answers a call whose words ask for a listing.
+fn answer_list<F: Files, K: Sink, E: Sink>(
+    alloc: Global,
+    words: &[String],
+    run: &RunWords,
+    files: &mut F,
+    out: &mut K,
+    err: &mut E,
+) -> Status
+    requires accepted { Accepted (texts words.now) (Run run.now) }
+    requires dfs { (run.now).strategy ≡ Dfs }
+    requires runs { 1 ≤ run.now.runs }
+    requires after { (after : Option Path) × IsAfter (texts words.now) run.now after }
+    ensures answered { Answered (record {
+      words = texts words.now;
+      seen = record {
+        held = F.held files.old;
+        files_old = F.faults files.old;
+        files_new = F.faults files.new;
+        out_old = K.written out.old;
+        out_new = K.written out.new;
+        faults_old = K.faults out.old;
+        faults_new = K.faults out.new;
+      };
+      err_old = E.written err.old;
+      err_new = E.written err.new;
+      err_faults_old = E.faults err.old;
+      err_faults_new = E.faults err.new;
+    }) result.0 }
+    ensures held { F.held files.new ≡ F.held files.old }
+{
+    let file = word(words, run.file);
+    let entry = word(words, run.entry);
+    let after = word_if(words, run.after);
+    match list_tests(alloc, run, after, file, entry, files, out) {
+        Ok(status) => status,
+        Err(refusal) => refuse(alloc, refusal, named(file, entry), err),
+    }
+}
+
+/// Answers a call whose words ask for a walk.
+fn answer_walk<F: Files, K: Sink, E: Sink>(
+    alloc: Global,
+    words: &[String],
+    run: &RunWords,
+    files: &mut F,
+    out: &mut K,
+    err: &mut E,
+) -> Status
+    requires accepted { Accepted (texts words.now) (Run run.now) }
+    requires walk { (run.now).strategy ≡ Dfs → ⊥ }
+    requires runs { 1 ≤ run.now.runs }
+    ensures answered { Answered (record {
+      words = texts words.now;
+      seen = record {
+        held = F.held files.old;
+        files_old = F.faults files.old;
+        files_new = F.faults files.new;
+        out_old = K.written out.old;
+        out_new = K.written out.new;
+        faults_old = K.faults out.old;
+        faults_new = K.faults out.new;
+      };
+      err_old = E.written err.old;
+      err_new = E.written err.new;
+      err_faults_old = E.faults err.old;
+      err_faults_new = E.faults err.new;
+    }) result.0 }
+    ensures held { F.held files.new ≡ F.held files.old }
+{
+    let file = word(words, run.file);
+    let entry = word(words, run.entry);
+    match walk_runs(alloc, run, file, entry, files, out) {
+        Ok(status) => status,
+        Err(refusal) => refuse(alloc, refusal, named(file, entry), err),
+    }
+}
+
+/// Whether the strategy is the search.
+fn is_search(strategy: Strategy) -> bool
+    ensures yes { result ≡ true → strategy ≡ Dfs }
+    ensures no { result ≡ false → strategy ≡ Dfs → ⊥ }
+{
+    match strategy {
+        Strategy::Dfs => true,
+        Strategy::Random | Strategy::UniformRandom | Strategy::Cfg => false,
+    }
+}
+
 /// Answers a call whose words are `run` and what follows.
 fn answer_run<F: Files, K: Sink, E: Sink>(
     alloc: Global,
@@ -99,12 +189,10 @@ fn answer_run<F: Files, K: Sink, E: Sink>(
     }) result.0 }
     ensures held { F.held files.new ≡ F.held files.old }
 {
-    let file = word(words, run.file);
-    let entry = word(words, run.entry);
-    let after = word_if(words, run.after);
-    match list_tests(alloc, run, after, file, entry, files, out) {
-        Ok(status) => status,
-        Err(refusal) => refuse(alloc, refusal, named(file, entry), err),
+    if is_search(run.strategy) {
+        answer_list(alloc, words, run, files, out, err)
+    } else {
+        answer_walk(alloc, words, run, files, out, err)
     }
 }
 
@@ -254,14 +342,21 @@ fn answer<F: Files, K: Sink, E: Sink>(
 }
 
 /// Does what the words of the command line ask: reads the file of a source, and either lists the paths of its tested
-/// function and writes the report, or runs that function on one input and writes what the run does, or runs it on the inputs
-/// of a tests file and writes whether each test is real; or lists the paths of a source that it makes, and writes the last
-/// line. Where it refuses, it says why in one line to `err`.
+/// function and writes the report, or walks over the runs of that function and writes the report, or runs it on one input and
+/// writes what the run does, or runs it on the inputs of a tests file and writes whether each test is real; or lists the paths
+/// of a source that it makes, and writes the last line. Where it refuses, it says why in one line to `err`.
 ///
-/// The statuses: 0 and 1 a complete listing or a run, 1 where a listed test or the run ends as a fault, 0 for `make` and for a
-/// replay of real tests; 2 the words are no command; 3 the source, the map or the tests file is refused; 4 a file can't be read;
-/// 5 the output failed; 7 want of memory, the one answer that nothing else explains; 8 a test of the file isn't real; 10 and 11
-/// an incomplete listing, 11 where a test or stray run ends as a fault.
+/// A walk begins with the run on the base input, and makes at most so many runs. It goes on to the inputs that solves give for
+/// alternatives of its runs: `-random` draws one of the alternatives of the current run that are left; `-uniform_random` makes
+/// passes over runs and draws at each event with alternatives one of all its outcomes; `-cfg` takes the alternative from which
+/// the fewest decisions lead to an outcome of a decision that no run took. The draws come from `-seed`. The report is the line of
+/// the bounds, a line for each run as it is made and for each solve that passed its budget, the lines of the terms, and the
+/// number of runs with how many outcomes of decisions they took, of how many. A walk claims no completeness.
+///
+/// The statuses: 0 and 1 a complete listing, a walk or a run, 1 where a listed test, a run of the walk or the run ends as a
+/// fault, 0 for `make` and for a replay of real tests; 2 the words are no command; 3 the source, the map or the tests file is
+/// refused; 4 a file can't be read; 5 the output failed; 7 want of memory, the one answer that nothing else explains; 8 a test
+/// of the file isn't real; 10 and 11 an incomplete listing, 11 where a test or stray run ends as a fault.
 pub fn concolic<F: Files, K: Sink, E: Sink>(
     alloc: Global,
     words: &[String],
@@ -269,23 +364,27 @@ pub fn concolic<F: Files, K: Sink, E: Sink>(
     out: &mut K,
     err: &mut E,
 ) -> Status
-    // `run`, 0 and 1: the report of a complete listing was written.
-    ensures headline { (run : RunWords) → Accepted (texts words.now) (Run run) → (result.0 ≡ 0) ⊎ (result.0 ≡ 1)
+    // `run` with `-dfs`, 0 and 1: the report of a complete listing was written.
+    ensures headline { (run : RunWords) → Accepted (texts words.now) (Run run) → run.strategy ≡ Dfs → (result.0 ≡ 0) ⊎ (result.0 ≡ 1)
         → Headline (texts words.now) run (F.held files.old) (K.written out.old) (K.written out.new) result.0 }
 
-    // `run`, 0, 1, 10 and 11: the report of a listing was written, the status is its verdict, and it misses no more than it says.
-    ensures listed { (run : RunWords) (after : Option Path) → Accepted (texts words.now) (Run run) → IsAfter (texts words.now) run after
+    // `run` with `-dfs`, 0, 1, 10 and 11: the report of a listing was written, the status is its verdict, and it misses no more than it says.
+    ensures listed { (run : RunWords) (after : Option Path) → Accepted (texts words.now) (Run run) → run.strategy ≡ Dfs → IsAfter (texts words.now) run after
         → In result.0 (0 ∷ 1 ∷ 10 ∷ 11 ∷ [])
         → Wrote (F.held files.old) (K.written out.old) (K.written out.new) (list_task (texts words.now) run after) result.0 }
-    ensures missed { (run : RunWords) → Accepted (texts words.now) (Run run) → In result.0 (0 ∷ 1 ∷ 10 ∷ 11 ∷ [])
+    ensures missed { (run : RunWords) → Accepted (texts words.now) (Run run) → run.strategy ≡ Dfs → In result.0 (0 ∷ 1 ∷ 10 ∷ 11 ∷ [])
         → NothingMissedBut (texts words.now) run (F.held files.old) (K.written out.old) (K.written out.new) result.0 }
+
+    // `run` with a walk, 0 and 1: the report of the walk was written; 1 where a run ends as a fault.
+    ensures walked { (run : RunWords) → Accepted (texts words.now) (Run run) → (run.strategy ≡ Dfs → ⊥) → In result.0 (0 ∷ 1 ∷ [])
+        → Wrote (F.held files.old) (K.written out.old) (K.written out.new) (walk_task (texts words.now) run) result.0 }
 
     // `trace`, 0 and 1: the run on the input of the map was written; 1 where it ends as a fault.
     ensures traced { (trace : TraceWords) → Accepted (texts words.now) (Trace trace) → result.0 ≤ 1
         → Wrote (F.held files.old) (K.written out.old) (K.written out.new) (trace_task (texts words.now) trace) result.0 }
 
     // What `run` and `trace` wrote is a tests file of the program, as it stands.
-    ensures run_file { (run : RunWords) → Accepted (texts words.now) (Run run) → In result.0 (0 ∷ 1 ∷ 10 ∷ 11 ∷ [])
+    ensures run_file { (run : RunWords) → Accepted (texts words.now) (Run run) → run.strategy ≡ Dfs → In result.0 (0 ∷ 1 ∷ 10 ∷ 11 ∷ [])
         → WroteTestsFile (texts words.now) (F.held files.old) (K.written out.old) (K.written out.new) run }
     ensures trace_file { (trace : TraceWords) → Accepted (texts words.now) (Trace trace) → result.0 ≤ 1
         → WroteTestFile (texts words.now) (F.held files.old) (K.written out.old) (K.written out.new) trace }
@@ -300,10 +399,15 @@ pub fn concolic<F: Files, K: Sink, E: Sink>(
 
     // They come where nothing is refused and nothing fails, unless memory is wanting.
     ensures answers_run { (run : RunWords) (after : Option Path) (bytes : List ℕ) (p : Program) → Accepted (texts words.now) (Run run)
-        → IsAfter (texts words.now) run after → IsSource (list_task (texts words.now) run after) (F.held files.old) bytes
+        → run.strategy ≡ Dfs → IsAfter (texts words.now) run after → IsSource (list_task (texts words.now) run after) (F.held files.old) bytes
         → IsProgram bytes (word_of (texts words.now) run.entry) p
         → (Rose (F.faults files.old) (F.faults files.new) → ⊥) → (Rose (K.faults out.old) (K.faults out.new) → ⊥)
         → In result.0 (0 ∷ 1 ∷ 7 ∷ 10 ∷ 11 ∷ []) }
+    ensures answers_walk { (run : RunWords) (bytes : List ℕ) (p : Program) → Accepted (texts words.now) (Run run)
+        → (run.strategy ≡ Dfs → ⊥) → IsSource (walk_task (texts words.now) run) (F.held files.old) bytes
+        → IsProgram bytes (word_of (texts words.now) run.entry) p
+        → (Rose (F.faults files.old) (F.faults files.new) → ⊥) → (Rose (K.faults out.old) (K.faults out.new) → ⊥)
+        → In result.0 (0 ∷ 1 ∷ 7 ∷ []) }
     ensures complete_trace { (trace : TraceWords) (bytes : List ℕ) (h : Input) → Accepted (texts words.now) (Trace trace)
         → IsSource (trace_task (texts words.now) trace) (F.held files.old) bytes
         → IsMap (word_of (texts words.now) trace.map) h
@@ -322,7 +426,7 @@ pub fn concolic<F: Files, K: Sink, E: Sink>(
     // The listing of an easy program is complete where there are runs for each path, or with `-after` for each path above that
     // path and one more than its length.
     ensures complete { (run : RunWords) (after : Option Path) (bytes : List ℕ) (paths : List Path) → Accepted (texts words.now) (Run run)
-        → IsAfter (texts words.now) run after → IsSource (list_task (texts words.now) run after) (F.held files.old) bytes
+        → run.strategy ≡ Dfs → IsAfter (texts words.now) run after → IsSource (list_task (texts words.now) run after) (F.held files.old) bytes
         → IsSourceOf bytes (word_of (texts words.now) run.entry) (λ p. IsEasy p run.bounds run.budget × HoldsPaths p run.bounds after paths)
         → length paths + room after ≤ run.runs
         → (Rose (F.faults files.old) (F.faults files.new) → ⊥) → (Rose (K.faults out.old) (K.faults out.new) → ⊥)
@@ -367,10 +471,10 @@ pub fn concolic<F: Files, K: Sink, E: Sink>(
     ensures stands { (result.0 ≡ 5) ⊎ (result.0 ≡ 7) → PartStands (texts words.now) (F.held files.old) (K.written out.old) (K.written out.new) }
     ensures silent { 2 ≤ result.0 → result.0 ≤ 4 → K.written out.new ≡ K.written out.old }
 
-    // No other status comes, 8 for `replay` alone, and 10 and 11 for `run` alone.
+    // No other status comes, 8 for `replay` alone, and 10 and 11 for `run` with `-dfs` alone.
     ensures statuses { In result.0 (0 ∷ 1 ∷ 2 ∷ 3 ∷ 4 ∷ 5 ∷ 7 ∷ 8 ∷ 10 ∷ 11 ∷ []) }
     ensures replay_alone { result.0 ≡ 8 → (replay : ReplayWords) × Accepted (texts words.now) (Replay replay) }
-    ensures run_alone { 10 ≤ result.0 → (run : RunWords) × Accepted (texts words.now) (Run run) }
+    ensures run_alone { 10 ≤ result.0 → (run : RunWords) × Accepted (texts words.now) (Run run) × (run.strategy ≡ Dfs) }
 
     // A call leaves the files as they were.
     ensures held { F.held files.new ≡ F.held files.old }

@@ -17,6 +17,7 @@ mod report;
 mod searching;
 mod session;
 mod tracing;
+mod walking;
 
 pub use answers::Status;
 pub use call::concolic;

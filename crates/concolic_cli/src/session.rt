@@ -2,10 +2,11 @@
 
 ghost use Rattle.std.specs.Prelude.{◌≡◌, ◌^◌, ◌<◌, ◌≤◌, IfOk, IfErr, Option, option_map, length};
 ghost use Rattle.cc_base.specs.Paths.{Path};
+ghost use Rattle.cc_model.specs.declared.commands.Strategy.TheVariants.{Dfs};
 ghost use Rattle.cc_model.specs.Core.{Program};
 ghost use Rattle.concolic_cli.specs.Loaded.{ReadAs, ReadTests};
 ghost use Rattle.concolic_cli.specs.Session.{FileCause, TestsCause, Ends};
-ghost use Rattle.concolic_cli.specs.Tasks.{IsPathOf, list, trace, replay};
+ghost use Rattle.concolic_cli.specs.Tasks.{IsPathOf, list, walk, trace, replay};
 
 use crate::after::path_if;
 use crate::answers::Status;
@@ -14,6 +15,7 @@ use crate::refusal::Refusal;
 use crate::replaying::{tests_in, write_replay};
 use crate::searching::write_listing;
 use crate::tracing::write_trace;
+use crate::walking::write_walk;
 use cc_model::RunWords;
 use cc_model::base::Bounds;
 use cc_outside::{Files, LoadFault, Sink};
@@ -102,6 +104,39 @@ pub fn list_tests<F: Files, K: Sink>(
         Err(refusal) => return Err(refusal),
     };
     Ok(status)
+}
+
+/// Walks over the runs of the function `entry` of the source in `file`, by the strategy of the words, and writes the report.
+pub fn walk_runs<F: Files, K: Sink>(
+    alloc: Global,
+    words: &RunWords,
+    file: &str,
+    entry: &str,
+    files: &mut F,
+    out: &mut K,
+) -> Result<Status, Refusal>
+    requires runs { 1 ≤ (words.now).runs }
+    requires walk { (words.now).strategy ≡ Dfs → ⊥ }
+    ensures ends { Ends (record {
+      held = F.held files.old;
+      files_old = F.faults files.old;
+      files_new = F.faults files.new;
+      out_old = K.written out.old;
+      out_new = K.written out.new;
+      faults_old = K.faults out.old;
+      faults_new = K.faults out.new;
+    }) (record { file = file.now; entry = entry.now; work = walk (words.now).strategy (words.now).bounds (words.now).runs (words.now).budget (words.now).seed }) result }
+    ensures held { F.held files.new ≡ F.held files.old }
+{
+    let source = read_source(alloc, files, file)?;
+    let compiled = match compile(alloc, &source, entry) {
+        Ok(compiled) => compiled,
+        Err(refusal) => return Err(refusal),
+    };
+    match write_walk(alloc, &compiled, words, out) {
+        Ok(status) => Ok(status),
+        Err(refusal) => Err(refusal),
+    }
 }
 
 /// Writes what the run of the function `entry` of the source in `file` does on the input of a map text.

@@ -6,6 +6,8 @@ use search_walks::distances;
 use std::process::Abort;
 use std::test::Fail;
 
+const EMPTY: &str = "int f(void) { return 0; }";
+
 const PLUS: &str = "int f(int x) { return x + 1; }";
 
 const EQUAL: &str = "int f(int x) { if (x == 3) return 1; return 0; }";
@@ -29,7 +31,15 @@ int f(struct cell *p) {
 }
 ";
 
-const ROWS: [Row; 12] = [
+const ROWS: [Row; 13] = [
+    (
+        EMPTY,
+        "run t.c f 10 -random 1",
+        "test ~ return ~
+ended runs=1 covered=0 of 0
+",
+        0,
+    ),
     // Among the alternatives + and - of the first run + is drawn, among . and - of the second first - and then . .
     (
         PLUS,

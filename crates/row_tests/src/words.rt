@@ -109,6 +109,36 @@ fn takes_a_path(rt: HostRuntime) -> Result<(), Fail> {
 }
 
 #[test]
+fn takes_walks(rt: HostRuntime) -> Result<(), Fail> {
+    for (text, strategy, seed, budget) in [
+        ("run t.c f 5 -random 3", Strategy::Random, 0, 20_000),
+        (
+            "run t.c f 5 -uniform_random 3 -seed 18446744073709551615",
+            Strategy::UniformRandom,
+            u64::MAX,
+            20_000,
+        ),
+        ("run t.c f 5 -cfg 3 -solver 7 -seed 4", Strategy::Cfg, 4, 7),
+    ] {
+        let command = read_text(rt.alloc(), text)?;
+        let Ok(Command::Run(run)) = command else {
+            return Err(Fail::from("refused"));
+        };
+        assert_eq!(rt;
+            (run.runs, run.bounds.depth(), run.strategy),
+            (5, 3, strategy),
+            "{text}"
+        );
+        assert_eq!(rt;
+            (run.seed, run.budget, run.after),
+            (seed, budget, None),
+            "{text}"
+        );
+    }
+    Ok(())
+}
+
+#[test]
 fn takes_make(rt: HostRuntime) -> Result<(), Fail> {
     for (text, number) in [("make 1", 1), ("make 1024", 1024)] {
         let command = read_text(rt.alloc(), text)?;
@@ -166,6 +196,13 @@ const REFUSED: &str = "1
 4 run t.c f 1000001 -dfs 1
 5 run t.c f 10 -bfs 1
 6 run t.c f 10 -dfs 1025
+5 run t.c f 10 -uniform 5
+7 run t.c f 10 -dfs 5 -seed 1
+7 run t.c f 10 -random 5 -after T
+8 run t.c f 10 -cfg 5 -seed -1
+8 run t.c f 10 -cfg 5 -seed 01
+8 run t.c f 10 -cfg 5 -seed 18446744073709551616
+9 run t.c f 10 -uniform_random 5 -seed 1 -seed 1
 7 run t.c f 10 -dfs 5 7
 8 run t.c f 10 -dfs 5 -after
 8 run t.c f 10 -dfs 5 -after TX

@@ -48,7 +48,7 @@ pub returns-clause-run_alone : goal.returns-clause-run_alone
 returns-clause-run_alone g c = promise.run_alone _ _ c.one_command.ensures (ending _ _ c.answer.ensures.answered)
 
 pub returns-clause-complete : goal.returns-clause-complete
-returns-clause-complete g c = λ run after bytes paths a n i s few. promise.complete _ _ c.one_command.ensures (ending _ _ c.answer.ensures.answered) c.one_program.ensures run after bytes paths a n i s few
+returns-clause-complete g c = λ run after bytes paths a v n i s few. promise.complete _ _ c.one_command.ensures (ending _ _ c.answer.ensures.answered) c.one_program.ensures run after bytes paths a v n i s few
 
 pub returns-clause-complete_trace : goal.returns-clause-complete_trace
 returns-clause-complete_trace g c = λ trace bytes h a i m s. promise.complete_trace _ _ c.one_command.ensures (ending _ _ c.answer.ensures.answered) c.one_program.ensures trace bytes h a i m s
@@ -72,7 +72,7 @@ pub returns-clause-answers_make : goal.returns-clause-answers_make
 returns-clause-answers_make g c = λ n a. promise.answers_make _ _ c.one_command.ensures (ending _ _ c.answer.ensures.answered) n a
 
 pub returns-clause-answers_run : goal.returns-clause-answers_run
-returns-clause-answers_run g c = λ run after bytes p a n i s. promise.answers_run _ _ c.one_command.ensures (ending _ _ c.answer.ensures.answered) c.one_program.ensures run after bytes p a n i s
+returns-clause-answers_run g c = λ run after bytes p a v n i s. promise.answers_run _ _ c.one_command.ensures (ending _ _ c.answer.ensures.answered) c.one_program.ensures run after bytes p a v n i s
 
 pub returns-clause-missing_file : goal.returns-clause-missing_file
 returns-clause-missing_file g c = λ task h a told. promise.missing_file _ _ c.one_command.ensures (ending _ _ c.answer.ensures.answered) task a h told
@@ -93,7 +93,13 @@ pub returns-clause-refused_tests : goal.returns-clause-refused_tests
 returns-clause-refused_tests g c = λ r bytes file line a i h. promise.refused_tests _ _ c.one_command.ensures (ending _ _ c.answer.ensures.answered) c.one_program.ensures r bytes file a i h line
 
 pub returns-clause-run_file : goal.returns-clause-run_file
-returns-clause-run_file g c = λ run a i. let f = has_after _ run a in file_of_run _ _ _ _ run f.0 _ a (promise.listed _ _ c.one_command.ensures (ending _ _ c.answer.ensures.answered) run f.0 a f.1 i)
+returns-clause-run_file g c = λ run a v i. let f = has_after _ run a in file_of_run _ _ _ _ run f.0 _ a (promise.listed _ _ c.one_command.ensures (ending _ _ c.answer.ensures.answered) run f.0 a v f.1 i)
 
 pub returns-clause-trace_file : goal.returns-clause-trace_file
 returns-clause-trace_file g c = λ trace a i. file_of_trace _ _ _ _ trace _ a (promise.traced _ _ c.one_command.ensures (ending _ _ c.answer.ensures.answered) trace a i)
+
+pub returns-clause-walked : goal.returns-clause-walked
+returns-clause-walked g c = λ words. promise.walked _ _ c.one_command.ensures (ending _ _ c.answer.ensures.answered) words
+
+pub returns-clause-answers_walk : goal.returns-clause-answers_walk
+returns-clause-answers_walk g c = λ run bytes p a v i s. promise.answers_walk _ _ c.one_command.ensures (ending _ _ c.answer.ensures.answered) c.one_program.ensures run bytes p a v i s

@@ -2,7 +2,7 @@ use Rattle.std.proofs.Common.{refl, sym, subst}
 use Rattle.concolic_cli.specs.Tasks.{IsPathOf, asks_list, list_task}
 use Rattle.concolic_cli.specs.Named.{names_in}
 use Rattle.concolic_cli.proofs.Calls.{done_call, refused_call}
-use Rattle.concolic_cli.proofs.call.answer_run.Goals as goal
+use Rattle.concolic_cli.proofs.call.answer_list.Goals as goal
 
 pub list_tests-requires-clause-after : goal.list_tests-requires-clause-after
 list_tests-requires-clause-after g c = let a = c.requires.after in (a.0, subst (λ w. IsPathOf w a.0) (sym c.word_if-after.ensures) a.1)
@@ -10,9 +10,9 @@ list_tests-requires-clause-after g c = let a = c.requires.after in (a.0, subst (
 pub returns-in-Ok-clause-answered : goal.returns-in-Ok-clause-answered
 returns-in-Ok-clause-answered g c =
     let f = c.word-file.ensures in let e = c.word-entry.ensures in let a = c.requires.after in
-    done_call _ _ _ (list_task _ c.args.run.now a.0) (cc (f, e)) (asks_list c.args.run.now a.0 c.requires.accepted a.1) (c.in-Ok.ensures.ends a.0 (subst (λ w. IsPathOf w a.0) (sym c.word_if-after.ensures) a.1)) refl
+    done_call _ _ _ (list_task _ c.args.run.now a.0) (cc (f, e)) (asks_list c.args.run.now a.0 c.requires.accepted c.requires.dfs a.1) (c.in-Ok.ensures.ends a.0 (subst (λ w. IsPathOf w a.0) (sym c.word_if-after.ensures) a.1)) refl
 
 pub returns-in-Err-clause-answered : goal.returns-in-Err-clause-answered
 returns-in-Err-clause-answered g c =
     let f = c.word-file.ensures in let e = c.word-entry.ensures in let a = c.requires.after in
-    refused_call _ _ c.in-Err.refusal _ (list_task _ c.args.run.now a.0) (cc (f, e)) (asks_list c.args.run.now a.0 c.requires.accepted a.1) (c.in-Err.ensures.ends a.0 (subst (λ w. IsPathOf w a.0) (sym c.word_if-after.ensures) a.1)) (names_in c.named.result) c.named.ensures c.refuse.ensures
+    refused_call _ _ c.in-Err.refusal _ (list_task _ c.args.run.now a.0) (cc (f, e)) (asks_list c.args.run.now a.0 c.requires.accepted c.requires.dfs a.1) (c.in-Err.ensures.ends a.0 (subst (λ w. IsPathOf w a.0) (sym c.word_if-after.ensures) a.1)) (names_in c.named.result) c.named.ensures c.refuse.ensures

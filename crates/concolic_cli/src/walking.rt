@@ -1,0 +1,185 @@
+//! The report on a walk over the runs of a program.
+
+ghost use Rattle.std.specs.Prelude.{◌≡◌, ◌^◌, ◌<◌, ◌≤◌, IfOk, IfErr, OnErr, true, false};
+ghost use Rattle.cc_model.specs.declared.commands.Strategy.TheVariants.{Dfs, Random, UniformRandom, Cfg};
+ghost use Rattle.cc_model.specs.CheckedProgram.{core_of};
+ghost use Rattle.cc_model.specs.Graphs.{PointsToCells};
+ghost use Rattle.cc_model.specs.Runs.{params_of};
+ghost use Rattle.search_walks.specs.Output.{WalkedWhole, WalkedPart, ended_line};
+ghost use Rattle.search_walks.specs.Setting.{setting};
+ghost use Rattle.concolic_cli.specs.Compiling.{Compiles};
+ghost use Rattle.concolic_cli.specs.Session.{WriteCause};
+ghost use Rattle.concolic_cli.specs.WalkReports.{WalkOf, WroteWalk, WroteWalkSome};
+
+use crate::answers::Status;
+use crate::lines::write_line;
+use crate::prepared::Compiled;
+use crate::refusal::Refusal;
+use crate::report::bounds_line;
+use cc_model::base::NoMemory;
+use cc_model::{RunWords, Strategy};
+use cc_outside::Sink;
+use itoa::Buffer;
+use search_walks::{SearchFault, WalkSummary, cfg_directed, random_branch, uniform_random};
+use std::alloc::Global;
+
+/// Walks by random branches, and writes the lines of the walk.
+fn walk_branches<K: Sink>(
+    alloc: Global,
+    compiled: &Compiled,
+    words: &RunWords,
+    out: &mut K,
+) -> Result<WalkSummary, Refusal>
+    requires compiles { Compiles compiled.now.checked compiled.now.tac }
+    requires points { PointsToCells (core_of compiled.now.checked).layouts (params_of (core_of compiled.now.checked)) }
+    requires runs { 1 ≤ (words.now).runs }
+    ensures walked { IfOk result (λ w. WalkedWhole (setting compiled.now.checked (words.now).bounds (words.now).budget) (λ l. WalkOf Random (setting compiled.now.checked (words.now).bounds (words.now).budget) compiled.now.tac (words.now).runs (words.now).seed false l) (K.written out.old) (K.written out.new) w) }
+    ensures part { OnErr result (WalkedPart (setting compiled.now.checked (words.now).bounds (words.now).budget) (λ l. WalkOf Random (setting compiled.now.checked (words.now).bounds (words.now).budget) compiled.now.tac (words.now).runs (words.now).seed true l) (K.written out.old) (K.written out.new)) }
+    ensures cause { IfErr result (λ e. WriteCause (K.faults out.old) (K.faults out.new) e) }
+    ensures never_falls { K.faults out.old ≤ K.faults out.new }
+{
+    match random_branch(
+        alloc,
+        &compiled.checked,
+        &compiled.tac,
+        &words.bounds,
+        words.runs,
+        words.budget,
+        words.seed,
+        out,
+    ) {
+        Ok(summary) => Ok(summary),
+        Err(SearchFault::Sink) => Err(Refusal::OutputFailed),
+        Err(SearchFault::NoMemory) => Err(Refusal::NoMemory),
+    }
+}
+
+/// Walks by passes, and writes the lines of the walk.
+fn walk_passes<K: Sink>(
+    alloc: Global,
+    compiled: &Compiled,
+    words: &RunWords,
+    out: &mut K,
+) -> Result<WalkSummary, Refusal>
+    requires compiles { Compiles compiled.now.checked compiled.now.tac }
+    requires points { PointsToCells (core_of compiled.now.checked).layouts (params_of (core_of compiled.now.checked)) }
+    requires runs { 1 ≤ (words.now).runs }
+    ensures walked { IfOk result (λ w. WalkedWhole (setting compiled.now.checked (words.now).bounds (words.now).budget) (λ l. WalkOf UniformRandom (setting compiled.now.checked (words.now).bounds (words.now).budget) compiled.now.tac (words.now).runs (words.now).seed false l) (K.written out.old) (K.written out.new) w) }
+    ensures part { OnErr result (WalkedPart (setting compiled.now.checked (words.now).bounds (words.now).budget) (λ l. WalkOf UniformRandom (setting compiled.now.checked (words.now).bounds (words.now).budget) compiled.now.tac (words.now).runs (words.now).seed true l) (K.written out.old) (K.written out.new)) }
+    ensures cause { IfErr result (λ e. WriteCause (K.faults out.old) (K.faults out.new) e) }
+    ensures never_falls { K.faults out.old ≤ K.faults out.new }
+{
+    match uniform_random(
+        alloc,
+        &compiled.checked,
+        &compiled.tac,
+        &words.bounds,
+        words.runs,
+        words.budget,
+        words.seed,
+        out,
+    ) {
+        Ok(summary) => Ok(summary),
+        Err(SearchFault::Sink) => Err(Refusal::OutputFailed),
+        Err(SearchFault::NoMemory) => Err(Refusal::NoMemory),
+    }
+}
+
+/// Walks by the flow of the code, and writes the lines of the walk.
+fn walk_flow<K: Sink>(
+    alloc: Global,
+    compiled: &Compiled,
+    words: &RunWords,
+    out: &mut K,
+) -> Result<WalkSummary, Refusal>
+    requires compiles { Compiles compiled.now.checked compiled.now.tac }
+    requires points { PointsToCells (core_of compiled.now.checked).layouts (params_of (core_of compiled.now.checked)) }
+    requires runs { 1 ≤ (words.now).runs }
+    ensures walked { IfOk result (λ w. WalkedWhole (setting compiled.now.checked (words.now).bounds (words.now).budget) (λ l. WalkOf Cfg (setting compiled.now.checked (words.now).bounds (words.now).budget) compiled.now.tac (words.now).runs (words.now).seed false l) (K.written out.old) (K.written out.new) w) }
+    ensures part { OnErr result (WalkedPart (setting compiled.now.checked (words.now).bounds (words.now).budget) (λ l. WalkOf Cfg (setting compiled.now.checked (words.now).bounds (words.now).budget) compiled.now.tac (words.now).runs (words.now).seed true l) (K.written out.old) (K.written out.new)) }
+    ensures cause { IfErr result (λ e. WriteCause (K.faults out.old) (K.faults out.new) e) }
+    ensures never_falls { K.faults out.old ≤ K.faults out.new }
+{
+    match cfg_directed(
+        alloc,
+        &compiled.checked,
+        &compiled.tac,
+        &words.bounds,
+        words.runs,
+        words.budget,
+        words.seed,
+        out,
+    ) {
+        Ok(summary) => Ok(summary),
+        Err(SearchFault::Sink) => Err(Refusal::OutputFailed),
+        Err(SearchFault::NoMemory) => Err(Refusal::NoMemory),
+    }
+}
+
+/// Walks over the runs of a program by the strategy of the words, and writes the lines of the walk.
+fn walk<K: Sink>(
+    alloc: Global,
+    compiled: &Compiled,
+    words: &RunWords,
+    out: &mut K,
+) -> Result<WalkSummary, Refusal>
+    requires compiles { Compiles compiled.now.checked compiled.now.tac }
+    requires points { PointsToCells (core_of compiled.now.checked).layouts (params_of (core_of compiled.now.checked)) }
+    requires runs { 1 ≤ (words.now).runs }
+    requires walk { (words.now).strategy ≡ Dfs → ⊥ }
+    ensures walked { IfOk result (λ w. WalkedWhole (setting compiled.now.checked (words.now).bounds (words.now).budget) (λ l. WalkOf (words.now).strategy (setting compiled.now.checked (words.now).bounds (words.now).budget) compiled.now.tac (words.now).runs (words.now).seed false l) (K.written out.old) (K.written out.new) w) }
+    ensures part { OnErr result (WalkedPart (setting compiled.now.checked (words.now).bounds (words.now).budget) (λ l. WalkOf (words.now).strategy (setting compiled.now.checked (words.now).bounds (words.now).budget) compiled.now.tac (words.now).runs (words.now).seed true l) (K.written out.old) (K.written out.new)) }
+    ensures cause { IfErr result (λ e. WriteCause (K.faults out.old) (K.faults out.new) e) }
+    ensures never_falls { K.faults out.old ≤ K.faults out.new }
+{
+    match words.strategy {
+        Strategy::Dfs => unreachable!(),
+        Strategy::Random => walk_branches(alloc, compiled, words, out),
+        Strategy::UniformRandom => walk_passes(alloc, compiled, words, out),
+        Strategy::Cfg => walk_flow(alloc, compiled, words, out),
+    }
+}
+
+/// The last line of the report on a walk: how many runs were made, and how many outcomes of decisions they took, of how many.
+fn ended_line(alloc: Global, summary: &WalkSummary) -> Result<Vec<u8>, NoMemory>
+    ensures { IfOk result (λ line. line.items ≡ ended_line summary.now) }
+{
+    let mut number = Buffer::new();
+    let mut line = Vec::from_slice(alloc, b"ended runs=")?;
+    line.extend_from_slice(number.format(summary.runs).as_bytes())?;
+    line.extend_from_slice(b" covered=")?;
+    line.extend_from_slice(number.format(summary.covered).as_bytes())?;
+    line.extend_from_slice(b" of ")?;
+    line.extend_from_slice(number.format(summary.outcomes).as_bytes())?;
+    line.push(b'\n')?;
+    Ok(line)
+}
+
+/// Walks over the runs of a program, and writes the report, each line by a write of its own. The status is 1 where a run ends as
+/// a fault, else 0.
+pub fn write_walk<K: Sink>(
+    alloc: Global,
+    compiled: &Compiled,
+    words: &RunWords,
+    out: &mut K,
+) -> Result<Status, Refusal>
+    requires compiles { Compiles compiled.now.checked compiled.now.tac }
+    requires points { PointsToCells (core_of compiled.now.checked).layouts (params_of (core_of compiled.now.checked)) }
+    requires runs { 1 ≤ (words.now).runs }
+    requires walk { (words.now).strategy ≡ Dfs → ⊥ }
+    ensures ok { IfOk result (λ s. WroteWalk compiled.now.checked compiled.now.tac (words.now).strategy (words.now).bounds (words.now).runs (words.now).budget (words.now).seed (K.written out.old) (K.written out.new) s.0) }
+    ensures part { OnErr result (WroteWalkSome compiled.now.checked compiled.now.tac (words.now).strategy (words.now).bounds (words.now).runs (words.now).budget (words.now).seed (K.written out.old) (K.written out.new)) }
+    ensures cause { IfErr result (λ e. WriteCause (K.faults out.old) (K.faults out.new) e) }
+{
+    let _lowest = words.bounds.lo();
+    let Ok(first) = bounds_line(alloc, &words.bounds) else {
+        return Err(Refusal::NoMemory);
+    };
+    write_line(out, &first)?;
+    let summary = walk(alloc, compiled, words, out)?;
+    let Ok(last) = ended_line(alloc, &summary) else {
+        return Err(Refusal::NoMemory);
+    };
+    write_line(out, &last)?;
+    Ok(Status(if summary.fault { 1 } else { 0 }))
+}
