@@ -14,8 +14,7 @@ const EQUAL: &str = "int f(int x) { if (x == 3) return 1; return 0; }";
 
 const STRAY: &str = "int f(int x) { int z; z = x*x; if (z == 0) if (x == 5) return 1; return 0; }";
 
-const SUM: &str =
-    "int f(int a, int b, int c) { if (6*a + 10*b + 15*c == 31) return 1; return 0; }";
+const SUM: &str = "int f(int a, int b, int c) { if (6*a + 10*b + 15*c == 31) return 1; return 0; }";
 
 /// Two decisions, one within the other.
 const NESTED: &str = "int f(int x, int y) { if (x == 3) if (y == 4) return 2; return 0; }";
