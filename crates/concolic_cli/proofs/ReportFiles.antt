@@ -131,7 +131,7 @@ file_of_run l held old new r after status a w =
     let bounds = run_bounds l r a in
     let well = points w.bytes _ h.program h.source in
     let f = listing_is_file h.program r.bounds h.listing well bounds k.bounds
-        (good_items h.program r.bounds well bounds (h.listing).items (k.sound).real (k.sound).unrun_within k.few) k.narrow in
+    (good_items h.program r.bounds well bounds (h.listing).items (k.sound).real (k.sound).unrun_within k.few) k.narrow in
     record {
       bytes = w.bytes;
       program = h.program;
@@ -162,8 +162,8 @@ module _ (p : Program) (b : Limits) where
   events_are n i line [] rest ts lines bytes few h = h n
   events_are n i line (a ∷ l) rest ts lines bytes few h =
       let r = other_line p b n (event_text i a.event (line a.token) a.kind) (event_lines line (suc i) l ++ rest) ts
-          (event_whole i a.event (line a.token) a.kind (omega (arith, few)) (all_first HasByte a.event (path_of plain l) bytes) (lines a.token))
-          (events_are (suc n) (suc i) line l rest ts lines (all_later HasByte a.event (path_of plain l) bytes) (omega (arith, few)) h) in
+      (event_whole i a.event (line a.token) a.kind (omega (arith, few)) (all_first HasByte a.event (path_of plain l) bytes) (lines a.token))
+      (events_are (suc n) (suc i) line l rest ts lines (all_later HasByte a.event (path_of plain l) bytes) (omega (arith, few)) h) in
       subst (λ t. HasTests p b n t ts) (sym (append_assoc (event_text i a.event (line a.token) a.kind) (event_lines line (suc i) l) rest)) r
 
   pub trace_is_file : (h : Input) → AreBounds b → CanBeTold p b h → IsShortInput p b h → (lines : List ℕ) × IsTestsFile p (trace_text p b h) b (test_at p b h ∷ []) lines

@@ -71,6 +71,8 @@ module _ (p : Program) (b : Limits) where
       (lines : List ℕ) × IsTestsFile p (bounds_line b ++ item_lines items ++ term_lines terms ++ last) b (ran items) lines
   report_is items terms last h g s w =
       let r = items_are 2 items (term_lines terms ++ last) [] g (λ m. terms_are m terms last [] s (λ k. one_line_alone k last of.Other w)) in
-      let q = file_is (item_lines items ++ (term_lines terms ++ last)) (ran items) h (subst (λ u. HasTests 2 (item_lines items ++ (term_lines terms ++ last)) u) (append-nil (ran items)) r) in
-      (q.0, subst (λ t. IsTestsFile p t b (ran items) q.0)
-      (sym (append_assoc (bounds_line b ++ item_lines items) (term_lines terms) last ∙ append_assoc (bounds_line b) (item_lines items) (term_lines terms ++ last))) q.1)
+      let q = file_is (item_lines items ++ (term_lines terms ++ last)) (ran items) h (subst (λ u. HasTests 2 (item_lines items ++ (term_lines terms ++ last)) u) (append-nil (ran items)) r) in (
+        q.0,
+        subst (λ t. IsTestsFile p t b (ran items) q.0)
+            (sym (append_assoc (bounds_line b ++ item_lines items) (term_lines terms) last ∙ append_assoc (bounds_line b) (item_lines items) (term_lines terms ++ last))) q.1,
+      )

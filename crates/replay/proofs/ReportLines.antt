@@ -107,9 +107,9 @@ term_is m n k h i = (
   _,
   inr (inl refl),
   subst (λ t. AreWords (the (codes "term") ∷ place ∷ term_kind ∷ []) (codes "term " ++ t)) (sym (append_assoc (decimal m ++ codes ":" ++ decimal n) (codes " ") (kind_text k)))
-  (first_then (codes "term") place (term_kind ∷ []) ((decimal m ++ codes ":" ++ decimal n) ++ 32 ∷ kind_text k) refl
-  (word_then place term_kind [] (decimal m ++ codes ":" ++ decimal n) (kind_text k) (place_lacks m n h i) (decimal m, decimal n, m, n, refl, is_number m h, is_number n i)
-  (last_of term_kind (kind_text k) (kind_lacks k).0 (k, refl)))),
+      (first_then (codes "term") place (term_kind ∷ []) ((decimal m ++ codes ":" ++ decimal n) ++ 32 ∷ kind_text k) refl
+      (word_then place term_kind [] (decimal m ++ codes ":" ++ decimal n) (kind_text k) (place_lacks m n h i) (decimal m, decimal n, m, n, refl, is_number m h, is_number n i)
+      (last_of term_kind (kind_text k) (kind_lacks k).0 (k, refl)))),
 )
 
 site_lacks : (k : SiteKind) → Lacks 32 (site_text k) × Lacks 10 (site_text k)
@@ -130,12 +130,12 @@ event_is i o n k h has l = (
   _,
   inr (inr (inl refl)),
   subst (λ t. AreWords (the (codes "event") ∷ number ∷ outcome ∷ number ∷ site_kind ∷ []) (codes "event " ++ t))
-  (sym (seven (decimal i) (codes " ") (byte_of o ∷ []) (codes " ") (decimal n) (codes " ") (site_text k)))
-  (first_then (codes "event") number (outcome ∷ number ∷ site_kind ∷ []) _ refl
-  (number_then i outcome (number ∷ site_kind ∷ []) _ h
-  (word_then outcome number (site_kind ∷ []) (byte_of o ∷ []) _ (outcome_lacks 32 o (omega arith)) (o, has, refl)
-  (number_then n site_kind [] (site_text k) l
-  (last_of site_kind (site_text k) (site_lacks k).0 (k, refl)))))),
+      (sym (seven (decimal i) (codes " ") (byte_of o ∷ []) (codes " ") (decimal n) (codes " ") (site_text k)))
+      (first_then (codes "event") number (outcome ∷ number ∷ site_kind ∷ []) _ refl
+      (number_then i outcome (number ∷ site_kind ∷ []) _ h
+      (word_then outcome number (site_kind ∷ []) (byte_of o ∷ []) _ (outcome_lacks 32 o (omega arith)) (o, has, refl)
+      (number_then n site_kind [] (site_text k) l
+      (last_of site_kind (site_text k) (site_lacks k).0 (k, refl)))))),
 )
 
 pub complete_is : (m n : ℕ) → m < 2 ^ 64 → n < 2 ^ 64 → IsOther (codes "complete paths=" ++ decimal m ++ codes " runs=" ++ decimal n)
@@ -144,9 +144,9 @@ complete_is m n h k = (
   _,
   inr (inr (inr (inl refl))),
   subst (λ t. AreWords (the (codes "complete") ∷ named (codes "paths") ∷ named (codes "runs") ∷ []) (codes "complete paths=" ++ t))
-  (sym (append_assoc (decimal m) (codes " runs=") (decimal n)))
-  (first_then (codes "complete") (named (codes "paths")) (named (codes "runs") ∷ []) _ refl
-  (named_then (codes "paths") m (named (codes "runs")) [] _ refl h (last_named (codes "runs") n refl k))),
+      (sym (append_assoc (decimal m) (codes " runs=") (decimal n)))
+      (first_then (codes "complete") (named (codes "paths")) (named (codes "runs") ∷ []) _ refl
+      (named_then (codes "paths") m (named (codes "runs")) [] _ refl h (last_named (codes "runs") n refl k))),
 )
 
 pub incomplete_is : (c : Counts) → AreSmall c →
@@ -156,13 +156,13 @@ incomplete_is c s = (
   _,
   inr (inr (inr (inr (inl refl)))),
   subst (λ t. AreWords (the (codes "incomplete") ∷ named (codes "terms") ∷ named (codes "spent") ∷ named (codes "steps") ∷ named (codes "strays") ∷ named (codes "unrun") ∷ []) (codes "incomplete terms=" ++ t))
-  (sym (nine (decimal c.terms) (codes " spent=") (decimal c.spent) (codes " steps=") (decimal c.steps) (codes " strays=") (decimal c.strays) (codes " unrun=") (decimal c.unrun)))
-  (first_then (codes "incomplete") (named (codes "terms")) (named (codes "spent") ∷ named (codes "steps") ∷ named (codes "strays") ∷ named (codes "unrun") ∷ []) _ refl
-  (named_then (codes "terms") c.terms (named (codes "spent")) (named (codes "steps") ∷ named (codes "strays") ∷ named (codes "unrun") ∷ []) _ refl s.terms
-  (named_then (codes "spent") c.spent (named (codes "steps")) (named (codes "strays") ∷ named (codes "unrun") ∷ []) _ refl s.spent
-  (named_then (codes "steps") c.steps (named (codes "strays")) (named (codes "unrun") ∷ []) _ refl s.steps
-  (named_then (codes "strays") c.strays (named (codes "unrun")) [] _ refl s.strays
-  (last_named (codes "unrun") c.unrun refl s.unrun)))))),
+      (sym (nine (decimal c.terms) (codes " spent=") (decimal c.spent) (codes " steps=") (decimal c.steps) (codes " strays=") (decimal c.strays) (codes " unrun=") (decimal c.unrun)))
+      (first_then (codes "incomplete") (named (codes "terms")) (named (codes "spent") ∷ named (codes "steps") ∷ named (codes "strays") ∷ named (codes "unrun") ∷ []) _ refl
+      (named_then (codes "terms") c.terms (named (codes "spent")) (named (codes "steps") ∷ named (codes "strays") ∷ named (codes "unrun") ∷ []) _ refl s.terms
+      (named_then (codes "spent") c.spent (named (codes "steps")) (named (codes "strays") ∷ named (codes "unrun") ∷ []) _ refl s.spent
+      (named_then (codes "steps") c.steps (named (codes "strays")) (named (codes "unrun") ∷ []) _ refl s.steps
+      (named_then (codes "strays") c.strays (named (codes "unrun")) [] _ refl s.strays
+      (last_named (codes "unrun") c.unrun refl s.unrun)))))),
 )
 
 -- ended runs=R covered=C of M
@@ -172,11 +172,11 @@ ended_is r c m h k l = (
   _,
   inr (inr (inr (inr (inr (inl refl))))),
   subst (λ t. AreWords (the (codes "ended") ∷ named (codes "runs") ∷ named (codes "covered") ∷ the (codes "of") ∷ number ∷ []) (codes "ended runs=" ++ t))
-  (sym (five (decimal r) (codes " covered=") (decimal c) (codes " of ") (decimal m)))
-  (first_then (codes "ended") (named (codes "runs")) (named (codes "covered") ∷ the (codes "of") ∷ number ∷ []) _ refl
-  (named_then (codes "runs") r (named (codes "covered")) (the (codes "of") ∷ number ∷ []) _ refl h
-  (named_then (codes "covered") c (the (codes "of")) (number ∷ []) _ refl k
-  (first_then (codes "of") number [] (decimal m) refl (last_number m l))))),
+      (sym (five (decimal r) (codes " covered=") (decimal c) (codes " of ") (decimal m)))
+      (first_then (codes "ended") (named (codes "runs")) (named (codes "covered") ∷ the (codes "of") ∷ number ∷ []) _ refl
+      (named_then (codes "runs") r (named (codes "covered")) (the (codes "of") ∷ number ∷ []) _ refl h
+      (named_then (codes "covered") c (the (codes "of")) (number ∷ []) _ refl k
+      (first_then (codes "of") number [] (decimal m) refl (last_number m l))))),
 )
 
 -- ---- whole lines
