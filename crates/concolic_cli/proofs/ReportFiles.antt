@@ -1,5 +1,5 @@
 -- A report is a tests file of its program.
-use Rattle.std.proofs.Common.{◌≡◌, ◌∙◌, sym, ap, refl, subst, ℕ, suc, ◌+◌, ◌^◌, ◌<◌, ◌≤◌, pos, negsuc, ◌≤ℤ◌, inl, inr, Bool, true, false, List, [], ◌∷◌, ◌++◌, length, Option, All, codes, append_assoc, arith, if◌then◌else◌, nat_eq}
+use Rattle.std.proofs.Common.{◌≡◌, ◌∙◌, sym, ap, refl, subst, ℕ, suc, ◌+◌, ◌^◌, ◌<◌, pos, ◌≤ℤ◌, inl, inr, Bool, true, false, List, [], ◌∷◌, ◌++◌, length, Option, All, codes, append_assoc, arith, if◌then◌else◌, nat_eq}
 use Rattle.std.proofs.lemmas.Int.{ints}
 use Rattle.std.specs.Fmt.{decimal}
 use Rattle.cc_base.specs.declared.inputs.Input.{Input}
@@ -22,7 +22,7 @@ use Rattle.cc_model.specs.Reads.{shallow}
 use Rattle.cc_model.specs.Report.{newline, bounds_line, item_line, item_lines, term_lines, last_line, complete_line, incomplete_line, report_text, total}
 use Rattle.cc_model.specs.Runs.{IsInput, params_of, path_of, run_of, path_at}
 use Rattle.cc_model.specs.Source.{IsProgram, text_at}
-use Rattle.cc_model.specs.Tested.{Term, Real, tested}
+use Rattle.cc_model.specs.Tested.{Real, tested}
 use Rattle.cc_laws.proofs.Pointed.{points_to_cells}
 use Rattle.cc_outside.specs.Held.{Held}
 use Rattle.cc_outside.specs.Told.{appended}
