@@ -14,3 +14,4 @@ mod WalkTexts
 mod Commands
 mod Calls
 mod Promises
+pub mod ReportFiles

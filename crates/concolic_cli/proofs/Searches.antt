@@ -23,12 +23,12 @@ use Rattle.cc_model.specs.Tested.{Layer, Term, Offers, Tested, tested}
 use Rattle.cc_model.specs.Traced.{Asked, asks_nothing, one_of, term, Event}
 use Rattle.cc_laws.specs.LinearForms.{linear}
 use Rattle.search_dfs.specs.Laws.{Laws}
-use Rattle.search_dfs.specs.Output.{HasFewCells}
+use Rattle.search_dfs.specs.Output.{CanBeRead}
 use Rattle.search_dfs.specs.Setting.{setting, layer_of}
 use Rattle.search_dfs.proofs.Counting as count
 use Rattle.search_dfs.proofs.Enumerating as enumerating
 use Rattle.search_dfs.proofs.Paths.{length_next}
-use Rattle.concolic_cli.specs.Listings.{HoldsPaths, IsEasy, IsListing, MissesNoMore, room, searched}
+use Rattle.concolic_cli.specs.Listings.{HoldsPaths, IsEasy, HasNarrowLines, IsListing, MissesNoMore, room, searched}
 
 -- ---- an easy program
 
@@ -91,13 +91,14 @@ module _ (c : Checked) (b : Limits) (budget : ℕ) where
         few = λ paths h. count.at_most_paths y laws after runs l s d v none paths (λ i w t. h i w (λ a f. absurd (cc f)));
       }
 
-      listing : ((x : Item) → In x l.items → HasFewCells x) → l.bounds ≡ b → IsListing c.sites (core_of c) b runs budget after l
-      listing cells same = record {
+      listing : ((x : Item) → In x l.items → CanBeRead x) → HasNarrowLines l → l.bounds ≡ b → IsListing c.sites (core_of c) b runs budget after l
+      listing cells small same = record {
         bounds = same;
         sound = s;
         licensed = d;
         covered = v;
         few = cells;
+        narrow = small;
         misses_no_more = misses;
         enumerates = enumerating.enumerates y laws after runs l s d v;
         complete = λ e paths h few. completes after refl e paths h few;
@@ -105,9 +106,9 @@ module _ (c : Checked) (b : Limits) (budget : ℕ) where
 
   -- with the layer as the search has it
   pub is_listing : (runs : ℕ) (after : Option Path) (l : Listing) → Laws (layer_of (setting c b budget)) → Sound after ((layer_of (setting c b budget)).runs) l.items →
-      Licensed after (layer_of (setting c b budget)) runs l → Covered after (layer_of (setting c b budget)) l.items → ((x : Item) → In x l.items → HasFewCells x) → l.bounds ≡ b → IsListing c.sites (core_of c) b runs budget after l
+      Licensed after (layer_of (setting c b budget)) runs l → Covered after (layer_of (setting c b budget)) l.items → ((x : Item) → In x l.items → CanBeRead x) → HasNarrowLines l → l.bounds ≡ b → IsListing c.sites (core_of c) b runs budget after l
   unfolding layer_of
-  is_listing runs after l laws s d v cells same = listing laws runs after l s d v cells same
+  is_listing runs after l laws s d v cells small same = listing laws runs after l s d v cells small same
 
   pub tested_sound : (after : Option Path) (items : List Item) → Sound after ((layer_of (setting c b budget)).runs) items → Sound after (tested (core_of c) b) items
   unfolding layer_of

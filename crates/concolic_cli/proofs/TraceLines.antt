@@ -87,7 +87,7 @@ lines_same c i [] (e ∷ es) h = absurd h
 lines_same c i (a ∷ l) [] h = absurd h
 lines_same c i (a ∷ l) (e ∷ es) h = ap₂ (λ u v. u ++ v) (line_same c i a e h.0 h.1) (lines_same c (suc i) l es h.2)
 
-path_same : (c : Checked) (l : List (Entry Outcome)) (es : List Event) → ArePlain c l es → map outcome_at es ≡ path_of plain l
+pub path_same : (c : Checked) (l : List (Entry Outcome)) (es : List Event) → ArePlain c l es → map outcome_at es ≡ path_of plain l
 path_same c [] [] h = refl
 path_same c [] (e ∷ es) h = absurd h
 path_same c (a ∷ l) [] h = absurd h

@@ -1,8 +1,8 @@
 -- What stands of a report while it is written, line by line.
-use Rattle.std.proofs.Common.{◌≡◌, ℕ, ◌≤◌, inl, inr, List, [], ◌++◌, Option, None, Result, Ok, Err, refl, sym, ap, subst, ◌∙◌, arith, append_assoc}
+use Rattle.std.proofs.Common.{◌≡◌, ℕ, ◌^◌, ◌<◌, ◌≤◌, inl, inr, List, [], ◌++◌, Option, None, Result, Ok, Err, refl, sym, ap, subst, ◌∙◌, arith, append_assoc}
 use Rattle.std.specs.Prelude.{IfOk}
 use Rattle.cc_base.specs.Limits.{Limits}
-use Rattle.cc_base.specs.Paths.{Path}
+use Rattle.cc_base.specs.Paths.{Path, In}
 use Rattle.cc_model.specs.declared.checked.Checked.{Checked}
 use Rattle.cc_model.specs.CheckedProgram.{core_of}
 use Rattle.cc_model.specs.Listing.{Item, Listing}
@@ -10,13 +10,16 @@ use Rattle.cc_model.specs.Report.{bounds_line, item_lines, term_lines, last_line
 use Rattle.cc_model.specs.Tested.{Term, tested}
 use Rattle.cc_outside.specs.Told.{appended, WritesPart}
 use Rattle.cc_outside.proofs.ToldLemmas.{appended-appended, WritesPart-none, WritesPart-first, WritesPart-after}
+use Rattle.replay.specs.ReportFiles.{AreSmall}
 use Rattle.search_dfs.specs.declared.search.Summary.{Summary}
-use Rattle.search_dfs.specs.Explored.{Sums, Explored, ExploredSome}
+use Rattle.search_dfs.specs.Explored.{Sums, HasNumbers, Explored, ExploredSome}
 use Rattle.search_dfs.specs.Laws.{Laws}
+use Rattle.search_dfs.specs.Output.{IsNarrow}
 use Rattle.search_dfs.specs.Setting.{setting, layer_of}
 use Rattle.concolic_cli.specs.declared.refusal.Refusal.{Refusal}
 use Rattle.concolic_cli.specs.declared.refusal.Refusal.TheVariants as refused
 use Rattle.concolic_cli.specs.Compiling.{WroteListing, WroteSome, IsLastLine}
+use Rattle.concolic_cli.specs.Listings.{HasNarrowLines}
 use Rattle.concolic_cli.specs.Session.{WriteCause}
 use Rattle.concolic_cli.proofs.Searches.{is_listing, tested_sound, nothing_sound}
 
@@ -40,6 +43,17 @@ cause_after old middle new refused.TestsFailed le h = absurd h
 cause_after old middle new (refused.Tests l) le h = absurd h
 
 -- ---- the report on a search
+
+-- the counts of a listing are those of its summary
+narrow_lines : (l : Listing) (s : Summary) → ((e : Term) → In e l.terms → IsNarrow e) → Sums l s → HasNumbers s → HasNarrowLines l
+narrow_lines l s terms sums n =
+    let c = sums.counts in
+    record {
+      terms = terms;
+      paths = subst (λ k. k < 2 ^ 64) sums.paths n.paths;
+      runs = subst (λ k. k < 2 ^ 64) sums.runs n.runs;
+      counts = subst AreSmall c (record { terms = n.terms; spent = n.spent; steps = n.steps; strays = n.strays; unrun = n.unrun });
+    }
 
 module _ (c : Checked) (b : Limits) (after : Option Path) (old : Option (List ℕ)) where
   abbrev listing_of : List Item → List Term → Listing
@@ -101,7 +115,7 @@ module _ (c : Checked) (b : Limits) (after : Option Path) (old : Option (List �
           WroteListing c b after old new runs budget status
       all_written laws new line status e w v = record {
         listing = found;
-        lists = is_listing c b budget runs after found laws x.sound x.licensed x.covered x.few refl;
+        lists = is_listing c b budget runs after found laws x.sound x.licensed x.covered x.few (narrow_lines (record { bounds = b; items = x.items; terms = x.terms }) summary x.narrow x.sums x.numbers) refl;
         written = w ∙ ap (λ u. appended searched u) e ∙ ap (λ m. appended m (last_line found)) before_last ∙ appended-appended old before (last_line found);
         verdict = v;
       }
@@ -111,7 +125,7 @@ pub is_last_line : (c : Checked) (b : Limits) (runs budget : ℕ) (old new : Opt
     Explored (setting c b budget) None runs old new summary → ((l : Listing) → Sums l summary → line ≡ last_line l) → IsLastLine c b runs budget line
 is_last_line c b runs budget old new summary line laws x h = record {
   listing = record { bounds = b; items = x.items; terms = x.terms };
-  lists = is_listing c b budget runs None (record { bounds = b; items = x.items; terms = x.terms }) laws x.sound x.licensed x.covered x.few refl;
+  lists = is_listing c b budget runs None (record { bounds = b; items = x.items; terms = x.terms }) laws x.sound x.licensed x.covered x.few (narrow_lines (record { bounds = b; items = x.items; terms = x.terms }) summary x.narrow x.sums x.numbers) refl;
   text_is = h (record { bounds = b; items = x.items; terms = x.terms }) x.sums;
 }
 

@@ -13,3 +13,4 @@ pub mod Session
 pub mod Prepared
 pub mod Replaying
 pub mod Concolic
+pub mod ReportFiles

@@ -1,5 +1,5 @@
 -- The listing of a program's tested function.
-use Rattle.std.specs.Prelude.{ℕ, ◌+◌, ◌≤◌, ◌≡◌, List, [], length, Option, Some, None}
+use Rattle.std.specs.Prelude.{ℕ, ◌+◌, ◌^◌, ◌<◌, ◌≤◌, ◌≡◌, List, [], length, Option, Some, None}
 use Rattle.cc_base.specs.declared.ends.End.TheVariants.{Steps}
 use Rattle.cc_base.specs.declared.inputs.Input.{Input}
 use Rattle.cc_base.specs.declared.inputs.Test.{Test}
@@ -17,11 +17,12 @@ use Rattle.cc_model.specs.Meaning.{Entry}
 use Rattle.cc_model.specs.Runs.{IsInput, path_at, end_at}
 use Rattle.cc_model.specs.Traced.{Event, term}
 use Rattle.cc_model.specs.Conditions.{condition, last_atoms, events_of, layer}
-use Rattle.cc_model.specs.Tested.{tested, Layer, Offers}
-use Rattle.cc_model.specs.Listing.{Item, Listing, spent_item, unrun_item, count_by, is_stray, run_count, tests, IsComplete, Above, Sound, Licensed, Covered, Enumerates, EnumeratesBut}
+use Rattle.cc_model.specs.Tested.{Term, tested, Layer, Offers}
+use Rattle.cc_model.specs.Listing.{Item, Listing, spent_item, unrun_item, count_by, is_stray, path_count, run_count, counts_of, tests, IsComplete, Above, Sound, Licensed, Covered, Enumerates, EnumeratesBut}
 use Rattle.cc_laws.specs.LinearForms.{linear}
+use Rattle.replay.specs.ReportFiles.{AreSmall}
 use Rattle.search_dfs.specs.Below.{column_in}
-use Rattle.search_dfs.specs.Output.{HasFewCells}
+use Rattle.search_dfs.specs.Output.{CanBeRead, IsNarrow}
 
 -- the test of a run
 abbrev pub test_at : Program → Limits → Input → Test
@@ -59,9 +60,16 @@ pub record MissesNoMore (p : Program) (b : Limits) (after : Option Path) (l : Li
   pub enumerates_but : EnumeratesBut after (tested p b) (tests l.items) (λ q. In (spent_item q) l.items) (λ q. (i : Input) × In (unrun_item i q) l.items)
   pub few : (paths : List Path) → HoldsPaths p b None paths → run_count l ≤ length paths
 
+-- the line and the column of each term, and the counts, have 64 bits
+pub record HasNarrowLines (l : Listing) : Type 0 where
+  pub terms : (e : Term) → In e l.terms → IsNarrow e
+  pub paths : path_count l < 2 ^ 64
+  pub runs : run_count l < 2 ^ 64
+  pub counts : AreSmall (counts_of l)
+
 -- A listing of the program's tested function within the bounds, above the path `after` where one is given, of at most so many
--- runs, with this budget for a solve. Each item is real and has its cause, its input's map can be read again, and at each prefix
--- every alternative is settled.
+-- runs, with this budget for a solve. Each item is real and has its cause, its line can be read again, as can those of the terms and
+-- the counts, and at each prefix every alternative is settled.
 -- Where no run concretised it misses no more than it says, and where the five counts are zero its tests enumerate the paths of
 -- every input, each once, in byte order. For an easy program with runs for each path, the counts are zero.
 pub record IsListing (sites : List Site) (p : Program) (b : Limits) (runs budget : ℕ) (after : Option Path) (l : Listing) : Type 0 where
@@ -69,7 +77,8 @@ pub record IsListing (sites : List Site) (p : Program) (b : Limits) (runs budget
   pub sound : Sound after (tested p b) l.items
   pub licensed : Licensed after (searched sites p b budget) runs l
   pub covered : Covered after (searched sites p b budget) l.items
-  pub few : (x : Item) → In x l.items → HasFewCells x
+  pub few : (x : Item) → In x l.items → CanBeRead x
+  pub narrow : HasNarrowLines l
   pub misses_no_more : l.terms ≡ [] → MissesNoMore p b after l
   pub enumerates : IsComplete l → Enumerates after (tested p b) (tests l.items)
   pub complete : IsEasy p b budget → (paths : List Path) → HoldsPaths p b after paths → length paths + room after ≤ runs → IsComplete l

@@ -1,5 +1,5 @@
 -- What is made of a source before anything is written.
-use Rattle.std.specs.Prelude.{ℕ, ◌≡◌, ◌≤◌, List, length, map, All}
+use Rattle.std.specs.Prelude.{ℕ, ◌≡◌, ◌^◌, ◌<◌, ◌≤◌, List, length, map, All}
 use Rattle.cc_base.specs.Limits.{Limits}
 use Rattle.cc_base.specs.Outcomes.{HasByte}
 use Rattle.cc_model.specs.declared.checked.Checked.{Checked}
@@ -9,6 +9,7 @@ use Rattle.cc_model.specs.Runs.{IsInput, run_of, end_at}
 use Rattle.input_map.specs.declared.faults.MapFault.{MapFault}
 use Rattle.input_map.specs.CellFaults.{Refused}
 use Rattle.input_map.specs.Maps.{IsMap}
+use Rattle.report_words.specs.Words.{HasLine}
 use Rattle.sym_run.specs.declared.trace.Trace.{Trace}
 use Rattle.sym_run.specs.Traces.{IsTrace, ArePlain, outcome_at}
 use Rattle.concolic_cli.specs.declared.prepared.Traced.{Traced}
@@ -29,6 +30,8 @@ pub record IsRun (c : Checked) (b : Limits) (t : Trace) : Type 0 where
   pub plain : ArePlain c (run_of (core_of c) b t.input).log t.events
   pub end : t.end ≡ end_at (core_of c) b t.input
   pub bytes : All HasByte (map outcome_at t.events)
+  pub line : HasLine t.end
+  pub lines : (k : ℕ) → (core_of c).line k < 2 ^ 64
 
 -- the program that the bytes are, and its run on the input of the map text
 pub record IsTraced (bytes entry map : List ℕ) (b : Limits) (t : Traced) : Type 0 where

@@ -27,7 +27,7 @@ use Rattle.replay.specs.ReplayText.{Written}
 use Rattle.concolic_cli.specs.Loaded.{ReadTests}
 use Rattle.concolic_cli.specs.Refusals.{map_text_of, tests_text}
 use Rattle.concolic_cli.specs.Sources.{Refuses}
-use Rattle.concolic_cli.specs.TraceText.{trace_text}
+use Rattle.concolic_cli.specs.TraceText.{trace_text, CanBeTold}
 use Rattle.concolic_cli.specs.WalkReports.{WalksAs, WalksSome}
 use Rattle.command_words.specs.Words.{Accepted, IsPath}
 
@@ -97,7 +97,7 @@ pub record ListsAs (bytes entry : List ℕ) (b : Limits) (runs budget : ℕ) (af
   pub verdict : status ≡ verdict_of listing
 
 -- the text tells of the run of the program that the bytes are on the input of the map text, which is one within the bounds and is
--- refused in no way; the status is 1 where the run ends as a fault
+-- refused in no way, and whose lines can be read again; the status is 1 where the run ends as a fault
 pub record TracesAs (bytes entry : List ℕ) (b : Limits) (map text : List ℕ) (status : ℕ) : Type 0 where
   pub program : Program
   pub input : Input
@@ -105,6 +105,7 @@ pub record TracesAs (bytes entry : List ℕ) (b : Limits) (map text : List ℕ) 
   pub named : IsMap map input
   pub within : IsInput program b input
   pub unrefused : (f : MapFault) → Refused program b map f → ⊥
+  pub told : CanBeTold program b input
   pub text_is : text ≡ trace_text program b input
   pub verdict : status ≡ (if is_fault (end_at program b input) then 1 else 0)
 

@@ -1,8 +1,9 @@
 //! From the bytes of a source to what is written of its tested function.
 
-ghost use Rattle.std.specs.Prelude.{◌≡◌, ℕ, ◌^◌, ◌<◌, ◌≤◌, IfOk, IfErr, length};
+ghost use Rattle.std.specs.Prelude.{◌≡◌, ℕ, ◌^◌, ◌<◌, ◌≤◌, IfOk, IfErr, length, unwrap_or, slice_get};
 ghost use Rattle.cc_model.specs.CheckedProgram.{core_of};
 ghost use Rattle.cc_model.specs.Runs.{IsInput};
+ghost use Rattle.report_words.specs.Words.{HasLine};
 ghost use Rattle.concolic_cli.specs.Compiling.{IsCompiled};
 ghost use Rattle.concolic_cli.specs.Prepared.{IsRead, IsRun, IsTraced};
 ghost use Rattle.concolic_cli.specs.Programs.{IsNoProgram};
@@ -14,10 +15,20 @@ use crate::program::{Source, read_program};
 use crate::refusal::Refusal;
 use cc_laws::a_checked_program_points_to_cells;
 use cc_model::Checked;
-use cc_model::base::{Bounds, Input, NoMemory};
+use cc_model::base::{Bounds, End, Input, NoMemory};
 use std::alloc::Global;
 use sym_run::{Trace, run};
 use tac_lower::{Tac, lower};
+
+/// Lines have 64 bits.
+fn narrow_lines(lines: &[u32])
+    ensures { (k : ℕ) → unwrap_or (slice_get lines.now k) 0 < 2 ^ 64 }
+{}
+
+/// The line of an end has 32 bits.
+fn line_fits(end: End)
+    ensures { HasLine end }
+{}
 
 /// The run of a checked program on an input within the bounds.
 fn run_on(
@@ -34,6 +45,8 @@ fn run_on(
     a_checked_program_points_to_cells();
     let tac = lower(alloc, checked)?;
     let trace = run(alloc, checked, &tac, input, bounds)?;
+    narrow_lines(checked.lines.as_slice());
+    line_fits(trace.end);
     Ok(trace)
 }
 

@@ -7,3 +7,6 @@ pub mod BoundsLaws
 pub mod BeforeLaws
 pub mod WholeFile
 pub mod HeldTests
+pub mod ReportTexts
+pub mod ReportLines
+pub mod ReportFiles

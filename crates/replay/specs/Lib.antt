@@ -6,3 +6,4 @@ pub mod Tables
 pub mod Behind
 pub mod Reading
 pub mod ReplayText
+pub mod ReportFiles

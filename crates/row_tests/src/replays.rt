@@ -96,7 +96,15 @@ fn reports_are_tests_files(rt: HostRuntime) -> Result<(), Fail> {
     )?;
     replays(&rt, TWO_CELLS, "run t.c f 3 -dfs 10", plain, "replayed 3\n")?;
     replays(&rt, STRAY, "run t.c f 100 -dfs 5", plain, "replayed 2\n")?;
-    replays(&rt, TWO_CELLS, "trace t.c f 3,3,0,0", plain, "replayed 1\n")
+    replays(&rt, TWO_CELLS, "trace t.c f 3,3,0,0", plain, "replayed 1\n")?;
+    replays(&rt, STRAY, "run t.c f 9 -cfg 5", plain, "replayed 2\n")?;
+    replays(
+        &rt,
+        REALISTIC,
+        "run t.c testme 20 -random 10 -seed 7",
+        realistic,
+        "replayed 20\n",
+    )
 }
 
 const BOUNDS: &str = "bounds min=-9 max=9 depth=10 objects=8 steps=100000\n";

@@ -39,8 +39,8 @@ fn behind_bounds(report: &str) -> &str {
     }
 }
 
-/// A search of `t.c`: its source, its words, the lines behind the bounds, and its status.
-type Row = (&'static str, &'static str, &'static str, u8);
+/// A search or a walk over `t.c`: its source, its words, the lines behind the bounds, and its status.
+pub(crate) type Row = (&'static str, &'static str, &'static str, u8);
 
 /// The words of two lines, which blanks part.
 fn words_of(alloc: Global, first: &str, second: &str) -> Result<Vec<String>, Fail> {
@@ -55,7 +55,7 @@ fn words_of(alloc: Global, first: &str, second: &str) -> Result<Vec<String>, Fai
 }
 
 /// Runs a row, and compares what it writes.
-fn check(rt: &(impl Abort + AllocGlobal), row: Row) -> Result<(), Fail> {
+pub(crate) fn check(rt: &(impl Abort + AllocGlobal), row: Row) -> Result<(), Fail> {
     let (source, line, lines, status) = row;
     let alloc = rt.alloc();
     let mut files = MemFiles::new(alloc);

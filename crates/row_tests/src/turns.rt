@@ -35,13 +35,13 @@ type Row = (&'static str, u32, u8, &'static str, &'static str);
 
 /// A checked program, and its code.
 #[derive(Drop)]
-struct Compiled {
-    checked: Checked,
-    tac: Tac,
+pub(crate) struct Compiled {
+    pub(crate) checked: Checked,
+    pub(crate) tac: Tac,
 }
 
 /// The program of a source, to test the function f.
-fn compile(alloc: Global, source: &[u8]) -> Result<Compiled, Fail>
+pub(crate) fn compile(alloc: Global, source: &[u8]) -> Result<Compiled, Fail>
     ensures compiles { IfOk result (λ c. Compiles (core_of c.checked) (map (seen c.checked) c.tac.code) (λ f. first_in c.tac f)) }
     ensures points { IfOk result (λ c. PointsToCells (core_of c.checked).layouts (params_of (core_of c.checked))) }
 {

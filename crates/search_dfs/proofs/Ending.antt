@@ -13,8 +13,8 @@ use Rattle.search_dfs.specs.declared.fault.SearchFault.TheVariants as fault
 use Rattle.search_dfs.specs.declared.search.Summary.{Summary}
 use Rattle.search_dfs.specs.declared.tally.FoundTerm.{FoundTerm}
 use Rattle.search_dfs.specs.declared.tally.Tally.{Tally}
-use Rattle.search_dfs.specs.Explored.{Explored, ExploredSome, Counted}
-use Rattle.search_dfs.specs.Output.{seen_term, out, InOrder}
+use Rattle.search_dfs.specs.Explored.{Explored, ExploredSome, Counted, HasNumbers}
+use Rattle.search_dfs.specs.Output.{seen_term, out, InOrder, IsNarrow}
 use Rattle.search_dfs.specs.Setting.{Setting, layer_of}
 use Rattle.search_dfs.specs.Turns.{SinkCause}
 use Rattle.search_dfs.specs.Whole.{Listed_whole, Listed_part}
@@ -82,8 +82,8 @@ module _ (p : Setting) (after : Option Path) (limit : ℕ) (t0 t1 : Tally) (old 
   ordered : Whole → InOrder (t1.terms).items
   ordered l = ((l.wrote).tally).order (subst InOrder (sym none) tt)
 
-  pub explored : (s : Summary) → Whole → new ≡ appended mid (term_lines found) → Counted t1 s → Explored p after limit old new s
-  explored s l w c =
+  pub explored : (s : Summary) → Whole → new ≡ appended mid (term_lines found) → Counted t1 s → HasNumbers s → ((e : Term) → In e found → IsNarrow e) → Explored p after limit old new s
+  explored s l w c n small =
       let k = (l.wrote).tally in record {
         items = l.items;
         terms = found;
@@ -92,6 +92,8 @@ module _ (p : Setting) (after : Option Path) (limit : ℕ) (t0 t1 : Tally) (old 
         licensed = l.licensed p.limits found (ordered l) (all_terms l);
         covered = l.covered;
         few = (l.wrote).few;
+        narrow = small;
+        numbers = n;
         sums = record {
           paths = from_none s.paths t0.paths t1.paths _ c.paths k.paths (ap (λ (t : Tally). t.paths) zero);
           runs = from_none s.runs t0.runs t1.runs _ c.runs k.runs (ap (λ (t : Tally). t.runs) zero);
@@ -128,3 +130,9 @@ terms_next (x ∷ l) (suc i) d h = terms_next l i d (omega (arith, h)) ∙ ap (�
   where
     more : (i : ℕ) → suc (i + 1) ≡ suc i + 1
     more i = omega arith
+
+-- each term of the list is narrow, by its place
+pub all_narrow : (l : List FoundTerm) (d : FoundTerm) → ((k : ℕ) → k < length l → IsNarrow (seen_term (get_or l k d))) → (e : Term) → In e (map seen_term l) → IsNarrow e
+all_narrow [] d h e i = absurd i
+all_narrow (x ∷ l) d h e (inl i) = subst IsNarrow (sym i) (h zero (omega arith))
+all_narrow (x ∷ l) d h e (inr i) = all_narrow l d (λ k lt. h (suc k) (omega (arith, lt))) e i

@@ -6,15 +6,15 @@ use Rattle.cc_model.specs.Report.{item_line, item_lines}
 use Rattle.cc_outside.specs.Told.{appended, WritesPart}
 use Rattle.cc_outside.proofs.ToldLemmas.{WritesPart-none, WritesPart-first}
 use Rattle.search_dfs.specs.declared.tally.Tally.{Tally}
-use Rattle.search_dfs.specs.Output.{out, HasFewCells, Tallied, Wrote, WroteSome}
+use Rattle.search_dfs.specs.Output.{out, CanBeRead, Tallied, Wrote, WroteSome}
 use Rattle.search_dfs.specs.Setting.{Setting}
 
 module _ (p : Setting) (x : Item) (line : List ℕ) (e : line ≡ item_line x) (old new : Option (List ℕ)) (f g : ℕ) (t u : Tally) where
-  one_few : HasFewCells x → (z : Item) → In z (x ∷ []) → HasFewCells z
-  one_few h z (inl i) = subst HasFewCells (sym i) h
+  one_few : CanBeRead x → (z : Item) → In z (x ∷ []) → CanBeRead z
+  one_few h z (inl i) = subst CanBeRead (sym i) h
   one_few h z (inr i) = absurd i
 
-  pub line_wrote : HasFewCells x → new ≡ appended old line → f ≤ g → Tallied p (x ∷ []) t u → Wrote p (x ∷ []) (out old f t) (out new g u)
+  pub line_wrote : CanBeRead x → new ≡ appended old line → f ≤ g → Tallied p (x ∷ []) t u → Wrote p (x ∷ []) (out old f t) (out new g u)
   line_wrote c w h k = record { bytes = w ∙ ap (appended old) (e ∙ sym (append-nil (item_line x))); faults = h; tally = k; few = one_few c }
 
   pub line_some : WritesPart old new line → WroteSome p (x ∷ []) (out old f t) (out new g u)

@@ -1,5 +1,5 @@
 -- What a search as a whole owes.
-use Rattle.std.specs.Prelude.{◌≡◌, ℕ, List, ◌++◌, length, Option}
+use Rattle.std.specs.Prelude.{◌≡◌, ℕ, ◌^◌, ◌<◌, List, ◌++◌, length, Option}
 use Rattle.cc_base.specs.Paths.{Path, In}
 use Rattle.cc_model.specs.Tested.{Term}
 use Rattle.cc_model.specs.Listing.{Item, Listing, Counts, counts_of, path_count, run_count, Sound, Licensed, Covered}
@@ -7,7 +7,7 @@ use Rattle.cc_model.specs.Report.{item_lines, term_lines, has_fault}
 use Rattle.cc_outside.specs.Told.{appended, WritesPart}
 use Rattle.search_dfs.specs.declared.search.Summary.{Summary}
 use Rattle.search_dfs.specs.declared.tally.Tally.{Tally}
-use Rattle.search_dfs.specs.Output.{HasFewCells}
+use Rattle.search_dfs.specs.Output.{CanBeRead, IsNarrow}
 use Rattle.search_dfs.specs.Setting.{Setting, layer_of}
 
 abbrev counted : Summary → Counts
@@ -31,8 +31,18 @@ pub record Counted (t : Tally) (s : Summary) : Type 0 where
   pub unrun : s.unrun ≡ t.unrun
   pub fault : s.fault ≡ t.fault
 
--- what was written are the lines of a listing that is sound, licensed and covered, of inputs that can be read again, and the
--- summary has its counts
+-- the numbers of the summary have 64 bits
+pub record HasNumbers (s : Summary) : Type 0 where
+  pub paths : s.paths < 2 ^ 64
+  pub runs : s.runs < 2 ^ 64
+  pub terms : s.terms < 2 ^ 64
+  pub spent : s.spent < 2 ^ 64
+  pub steps : s.steps < 2 ^ 64
+  pub strays : s.strays < 2 ^ 64
+  pub unrun : s.unrun < 2 ^ 64
+
+-- what was written are the lines of a listing that is sound, licensed and covered, of items and terms that can be read again, and
+-- the summary has its counts
 pub record Explored (p : Setting) (after : Option Path) (limit : ℕ) (old new : Option (List ℕ)) (s : Summary) : Type 0 where
   pub items : List Item
   pub terms : List Term
@@ -40,8 +50,10 @@ pub record Explored (p : Setting) (after : Option Path) (limit : ℕ) (old new :
   pub sound : Sound after ((layer_of p).runs) items
   pub licensed : Licensed after (layer_of p) limit (record { bounds = p.limits; items = items; terms = terms })
   pub covered : Covered after (layer_of p) items
-  pub few : (x : Item) → In x items → HasFewCells x
+  pub few : (x : Item) → In x items → CanBeRead x
+  pub narrow : (e : Term) → In e terms → IsNarrow e
   pub sums : Sums (record { bounds = p.limits; items = items; terms = terms }) s
+  pub numbers : HasNumbers s
 
 -- what was written is a first part of the lines of sound items and of terms
 pub record ExploredSome (p : Setting) (after : Option Path) (old new : Option (List ℕ)) : Type 0 where

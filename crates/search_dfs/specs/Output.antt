@@ -1,6 +1,7 @@
 -- What a search writes and counts.
-use Rattle.std.specs.Prelude.{ℕ, ◌+◌, ◌<◌, ◌≤◌, ◌≡◌, ◌⊎◌, ◌↔◌, ◌||◌, ◌^◌, List, map, length, Option}
+use Rattle.std.specs.Prelude.{ℕ, ◌+◌, ◌<◌, ◌≤◌, ◌≡◌, ◌⊎◌, ◌↔◌, ◌||◌, ◌^◌, List, map, length, Option, All}
 use Rattle.cc_base.specs.declared.inputs.Test.{Test}
+use Rattle.cc_base.specs.Outcomes.{HasByte}
 use Rattle.cc_base.specs.Paths.{In, Pairwise}
 use Rattle.cc_model.specs.declared.terms.TermKind.{TermKind}
 use Rattle.cc_model.specs.declared.terms.TermKind.TheVariants.{Product, Quotient, Index, Wide}
@@ -8,6 +9,7 @@ use Rattle.cc_model.specs.Tested.{Term}
 use Rattle.cc_model.specs.Listing.{Item, test_item, past_item, stray_item, spent_item, unrun_item, WasRun, count_by, is_test, is_run, is_spent, is_at_steps, is_stray, is_unrun}
 use Rattle.cc_model.specs.Report.{item_lines, has_fault}
 use Rattle.cc_outside.specs.Told.{appended, WritesPart}
+use Rattle.report_words.specs.Words.{HasLine}
 use Rattle.search_dfs.specs.declared.tally.FoundTerm.{FoundTerm}
 use Rattle.search_dfs.specs.declared.tally.Tally.{Tally}
 use Rattle.search_dfs.specs.Setting.{Setting, layer_of}
@@ -53,20 +55,31 @@ pub record Tallied (p : Setting) (e : Items) (old new : Tally) : Type 0 where
   pub terms : (x : Term) → In x (map seen_term (new.terms).items) ↔ (In x (map seen_term (old.terms).items) ⊎ ((t : Test) × WasRun t e × In x ((layer_of p).terms t.input)))
   pub order : InOrder (old.terms).items → InOrder (new.terms).items
 
--- the input of the item, where it has one, has fewer than 10^18 cells, so that its map can be read again
-abbrev pub HasFewCells : Item → Type 0
-HasFewCells (test_item t) = length (t.input).cells < 10 ^ 18
-HasFewCells (past_item t) = length (t.input).cells < 10 ^ 18
-HasFewCells (stray_item t q) = length (t.input).cells < 10 ^ 18
-HasFewCells (spent_item q) = Unit {0}
-HasFewCells (unrun_item i q) = length i.cells < 10 ^ 18
+-- the test of a line can be read again: its input has fewer than 10^18 cells, its outcomes have bytes, and its end's line 32 bits
+pub record HasTestLine (t : Test) : Type 0 where
+  pub cells : length (t.input).cells < 10 ^ 18
+  pub bytes : All HasByte t.path
+  pub line : HasLine t.end
+
+-- the same of an item's test, its input and its prefix, where it has one
+abbrev pub CanBeRead : Item → Type 0
+CanBeRead (test_item t) = HasTestLine t
+CanBeRead (past_item t) = HasTestLine t
+CanBeRead (stray_item t q) = HasTestLine t × All HasByte q
+CanBeRead (spent_item q) = All HasByte q
+CanBeRead (unrun_item i q) = (length i.cells < 10 ^ 18) × All HasByte q
+
+-- the line and the column of the term have 64 bits
+pub record IsNarrow (e : Term) : Type 0 where
+  pub line : e.line < 2 ^ 64
+  pub col : e.col < 2 ^ 64
 
 -- the items are lines that were written, and they were counted
 pub record Wrote (p : Setting) (e : Items) (old new : Out) : Type 0 where
   pub bytes : new.bytes ≡ appended old.bytes (item_lines e)
   pub faults : old.faults ≤ new.faults
   pub tally : Tallied p e old.tally new.tally
-  pub few : (x : Item) → In x e → HasFewCells x
+  pub few : (x : Item) → In x e → CanBeRead x
 
 -- a first part of their lines was written
 abbrev pub WroteSome : Setting → Items → Out → Out → Type 0

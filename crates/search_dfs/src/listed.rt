@@ -3,6 +3,7 @@
 ghost use Rattle.std.specs.Prelude.{◌≡◌, ◌<◌, ◌≤◌, ◌^◌, [], ◌∷◌, length, OnOk, OnErr, IfErr, All};
 ghost use Rattle.cc_base.specs.Outcomes.{HasByte};
 ghost use Rattle.cc_model.specs.Listing.{test_item, past_item, stray_item, spent_item, unrun_item};
+ghost use Rattle.report_words.specs.Words.{HasLine};
 ghost use Rattle.search_dfs.specs.Output.{out as told, Wrote, WroteSome};
 ghost use Rattle.search_dfs.specs.Setting.{TraceOf};
 ghost use Rattle.search_dfs.specs.Task.{setting_of, after_of};
@@ -14,8 +15,13 @@ use crate::open::Pending;
 use crate::order::is_above;
 use crate::tally::Tally;
 use crate::task::Task;
-use cc_model::base::{Input, PathText};
+use cc_model::base::{End, Input, PathText};
 use cc_outside::Sink;
+
+/// The line of an end has 32 bits.
+fn line_fits(end: End)
+    ensures { HasLine end }
+{}
 
 /// Lists a run as a test.
 fn list_test<K: Sink>(
@@ -32,6 +38,7 @@ fn list_test<K: Sink>(
 {
     let line = test_line(task.alloc, run)?;
     tally.count_test(task, run)?;
+    line_fits(run.trace.end);
     write_line(sink, &line)
 }
 
@@ -50,6 +57,7 @@ fn list_past<K: Sink>(
 {
     let line = past_line(task.alloc, run)?;
     tally.count_past(task, run)?;
+    line_fits(run.trace.end);
     write_line(sink, &line)
 }
 
@@ -91,6 +99,7 @@ pub(crate) fn list_stray<K: Sink>(
 {
     let line = stray_line(task.alloc, run, prefix)?;
     tally.count_stray(task, run)?;
+    line_fits(run.trace.end);
     write_line(sink, &line)
 }
 

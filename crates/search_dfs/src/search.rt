@@ -1,18 +1,20 @@
 //! The depth-first search as a whole.
 
 ghost use Rattle.std.specs.Prelude.{◌≡◌, ◌^◌, ◌<◌, ◌≤◌, length, IfOk, OnOk, OnErr, IfErr, map, option_map};
+ghost use Rattle.cc_base.specs.Paths.{In};
 ghost use Rattle.cc_model.specs.CheckedProgram.{core_of};
 ghost use Rattle.cc_model.specs.Compiles.{Compiles};
 ghost use Rattle.cc_model.specs.Graphs.{PointsToCells};
 ghost use Rattle.cc_model.specs.Report.{term_line, term_lines};
 ghost use Rattle.cc_model.specs.Runs.{params_of};
+ghost use Rattle.cc_model.specs.Tested.{Term as Found};
 ghost use Rattle.cc_outside.specs.Told.{appended, WritesPart};
 ghost use Rattle.tac_lower.specs.Finished.{first_in};
 ghost use Rattle.tac_lower.specs.Seen.{seen};
 ghost use Rattle.search_dfs.specs.declared.open.Pending.{Pending as Kept};
-ghost use Rattle.search_dfs.specs.Explored.{Explored, ExploredSome, Counted};
+ghost use Rattle.search_dfs.specs.Explored.{Explored, ExploredSome, Counted, HasNumbers};
 ghost use Rattle.search_dfs.specs.Laws.{Laws};
-ghost use Rattle.search_dfs.specs.Output.{seen_term, out as told};
+ghost use Rattle.search_dfs.specs.Output.{seen_term, out as told, IsNarrow};
 ghost use Rattle.search_dfs.specs.Setting.{setting, layer_of, within_of, base_of};
 ghost use Rattle.search_dfs.specs.Task.{setting_of, after_of, Known};
 ghost use Rattle.search_dfs.specs.Turns.{Begins, SinkCause};
@@ -114,11 +116,34 @@ fn write_terms<K: Sink>(alloc: Global, terms: &[FoundTerm], sink: &mut K) -> Res
     Ok(())
 }
 
+/// The line and the column of a term have 64 bits.
+fn narrow_one(term: FoundTerm)
+    ensures { IsNarrow (seen_term term) }
+{}
+
+/// The same of all terms.
+fn narrow(terms: &[FoundTerm])
+    ensures { (e : Found) → In e (map seen_term terms.now) → IsNarrow e }
+{
+    for term in terms {
+        narrow_one(*term);
+    }
+}
+
+/// The numbers of a summary have 64 bits.
+fn with_numbers(summary: Summary) -> Summary
+    ensures same { result ≡ summary }
+    ensures numbers { HasNumbers result }
+{
+    summary
+}
+
 /// What was counted.
 fn summed(tally: &Tally) -> Summary
-    ensures { Counted tally.now result }
+    ensures counted { Counted tally.now result }
+    ensures numbers { HasNumbers result }
 {
-    Summary {
+    with_numbers(Summary {
         paths: tally.paths,
         runs: tally.runs,
         terms: tally.terms.len() as u64,
@@ -127,7 +152,7 @@ fn summed(tally: &Tally) -> Summary
         strays: tally.strays,
         unrun: tally.unrun,
         fault: tally.fault,
-    }
+    })
 }
 
 /// Searches the paths of a checked program's tested function depth first, with at most `runs` runs and a budget for each group of
@@ -165,5 +190,6 @@ pub fn explore<K: Sink>(
     let mut tally = Tally::new(alloc);
     search_all(&task, out, &mut tally)?;
     write_terms(alloc, tally.terms.as_slice(), out)?;
+    narrow(tally.terms.as_slice());
     Ok(summed(&tally))
 }

@@ -14,4 +14,7 @@ pub mod CoverLaws
 pub mod TakeLaws
 pub mod EndLaws
 pub mod FollowLaws
+pub mod ItemLaws
 pub mod LoggedLaws
+pub mod TriedLaws
+pub mod SumLaws

@@ -13,4 +13,4 @@ pub returns-in_err-count_past-clause-err : goal.returns-in_err-count_past-clause
 returns-in_err-count_past-clause-err g c = on_err _ (nothing_some (past_item (test_at (c.args.run).now) ∷ []) _)
 
 pub returns-clause-ok : goal.returns-clause-ok
-returns-clause-ok g c = ok_map _ c.write_line.ensures.ok (λ w. line_wrote (setting_of (c.args.task).now) (past_item (test_at (c.args.run).now)) c.deref.result.now (c.deref.ensures.value ∙ c.in_ok-line.ensures) _ _ _ _ _ _ c.requires.few_cells w c.write_line.ensures.never_falls c.in_ok-count_past.ensures)
+returns-clause-ok g c = ok_map _ c.write_line.ensures.ok (λ w. line_wrote (setting_of (c.args.task).now) (past_item (test_at (c.args.run).now)) c.deref.result.now (c.deref.ensures.value ∙ c.in_ok-line.ensures) _ _ _ _ _ _ (record { cells = c.requires.few_cells; bytes = c.requires.bytes; line = c.line_fits.ensures }) w c.write_line.ensures.never_falls c.in_ok-count_past.ensures)

@@ -13,4 +13,4 @@ pub returns-in_err-count_stray-clause-err : goal.returns-in_err-count_stray-clau
 returns-in_err-count_stray-clause-err g c = on_err _ (nothing_some (stray_item (test_at (c.args.run).now) (c.args.prefix).now ∷ []) _)
 
 pub returns-clause-ok : goal.returns-clause-ok
-returns-clause-ok g c = ok_map _ c.write_line.ensures.ok (λ w. line_wrote (setting_of (c.args.task).now) (stray_item (test_at (c.args.run).now) (c.args.prefix).now) c.deref.result.now (c.deref.ensures.value ∙ c.in_ok-line.ensures) _ _ _ _ _ _ c.requires.trace.few_cells w c.write_line.ensures.never_falls (c.in_ok-count_stray.ensures (c.args.prefix).now))
+returns-clause-ok g c = ok_map _ c.write_line.ensures.ok (λ w. line_wrote (setting_of (c.args.task).now) (stray_item (test_at (c.args.run).now) (c.args.prefix).now) c.deref.result.now (c.deref.ensures.value ∙ c.in_ok-line.ensures) _ _ _ _ _ _ (record { cells = c.requires.trace.few_cells; bytes = c.requires.trace.bytes; line = c.line_fits.ensures }, c.requires.prefix) w c.write_line.ensures.never_falls (c.in_ok-count_stray.ensures (c.args.prefix).now))

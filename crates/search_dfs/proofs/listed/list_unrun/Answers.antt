@@ -12,4 +12,4 @@ pub returns-in_err-count_unrun-clause-err : goal.returns-in_err-count_unrun-clau
 returns-in_err-count_unrun-clause-err g c = on_err _ (nothing_some (unrun_item (c.args.input).now (c.args.prefix).now ∷ []) _)
 
 pub returns-clause-ok : goal.returns-clause-ok
-returns-clause-ok g c = ok_map _ c.write_line.ensures.ok (λ w. line_wrote (setting_of (c.args.task).now) (unrun_item (c.args.input).now (c.args.prefix).now) c.deref.result.now (c.deref.ensures.value ∙ c.in_ok-line.ensures) _ _ _ _ _ _ c.requires.few w c.write_line.ensures.never_falls (c.in_ok-count_unrun.ensures (setting_of (c.args.task).now) (c.args.input).now (c.args.prefix).now))
+returns-clause-ok g c = ok_map _ c.write_line.ensures.ok (λ w. line_wrote (setting_of (c.args.task).now) (unrun_item (c.args.input).now (c.args.prefix).now) c.deref.result.now (c.deref.ensures.value ∙ c.in_ok-line.ensures) _ _ _ _ _ _ (c.requires.few, c.requires.prefix) w c.write_line.ensures.never_falls (c.in_ok-count_unrun.ensures (setting_of (c.args.task).now) (c.args.input).now (c.args.prefix).now))

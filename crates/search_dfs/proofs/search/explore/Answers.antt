@@ -1,7 +1,9 @@
 use Rattle.std.proofs.Common.{map, option_map, ap, ◌∙◌, subst}
+use Rattle.cc_base.specs.Paths.{In}
 use Rattle.cc_model.specs.Report.{term_lines}
+use Rattle.cc_model.specs.Tested.{Term as Found}
 use Rattle.cc_outside.specs.Told.{appended, WritesPart}
-use Rattle.search_dfs.specs.Output.{seen_term}
+use Rattle.search_dfs.specs.Output.{seen_term, IsNarrow}
 use Rattle.search_dfs.specs.Setting.{setting}
 use Rattle.search_dfs.proofs.Down.{on_err}
 use Rattle.search_dfs.proofs.Ending.{explored, explored_part, listed_part}
@@ -22,4 +24,4 @@ returns-in_err-write_terms-clause-some g c = on_err _ (explored_part (setting c.
 
 pub returns-clause-explored : goal.returns-clause-explored
 returns-clause-explored g c = explored (setting c.args.checked.now c.args.bounds.now c.args.budget) (option_map (λ r. r.now) c.args.after) c.args.runs c.new-tally.result c.search_all.new.tally (g.K.Sink.written (c.args.out).now) (g.K.Sink.written c.search_all.new.sink) (g.K.Sink.written c.write_terms.new.sink) (g.K.Sink.faults (c.args.out).now) (g.K.Sink.faults c.search_all.new.sink) c.new-tally.ensures.none c.new-tally.ensures.zero c.summed.result c.in_ok-search_all.ensures.ok
-    (c.in_ok-write_terms.ensures.ok ∙ ap (λ l. appended (g.K.Sink.written c.search_all.new.sink) (term_lines (map seen_term l))) c.as_slice.ensures.value) c.summed.ensures
+    (c.in_ok-write_terms.ensures.ok ∙ ap (λ l. appended (g.K.Sink.written c.search_all.new.sink) (term_lines (map seen_term l))) c.as_slice.ensures.value) c.summed.ensures.counted c.summed.ensures.numbers (subst (λ l. (e : Found) → In e (map seen_term l) → IsNarrow e) c.as_slice-2.ensures.value c.narrow.ensures)

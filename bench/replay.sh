@@ -1,0 +1,33 @@
+#!/usr/bin/env bash
+# Times `replay` of 10,000 tests of a list program: the report of a search, its tests one after the other until there are so
+# many. Takes the program as ./tevgoral has built it, or PROGRAM. No part of the gate. Wants GNU time as /usr/bin/time.
+set -euo pipefail
+top=$(cd "$(dirname "$0")/.." && pwd)
+program=${PROGRAM:-$top/tevgoral}
+room=$(mktemp -d)
+trap 'rm -rf "$room"' EXIT
+cd "$room"
+
+cat >t.c <<'C'
+#include <stdlib.h>
+typedef struct cell { int v; struct cell *next; } cell;
+int f(int v) { return 2 * v + 1; }
+int testme(cell *p, int x) {
+  if (x > 0)
+    if (p != NULL)
+      if (f(x) == p->v)
+        if (p->next == p) abort();
+  return 0; /* no fault */
+}
+C
+
+"$program" run t.c testme 100 -dfs 10 >report || true
+lscpu | grep -E '^(Model name|CPU\(s\)):' | sed 's/:  */: /'
+printf '%8s %10s %10s %8s  %s\n' tests bytes seconds MB answer
+for count in 1000 10000 100000; do
+    awk -v count="$count" 'NR == 1 { print } $1 == "test" { tests[n++] = $0 }
+        END { for (i = 0; i < count; i++) print tests[i % n] }' report >tests
+    /usr/bin/time -f '%e %M' -o time "$program" replay t.c testme tests >answer 2>&1 || true
+    read -r seconds kilobytes <time
+    printf '%8d %10d %10.2f %8d  %s\n' "$count" "$(stat -c %s tests)" "$seconds" $((kilobytes / 1024)) "$(head -1 answer)"
+done
