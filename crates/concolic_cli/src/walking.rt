@@ -116,23 +116,24 @@ fn walk_flow<K: Sink>(
     }
 }
 
-/// Walks over the runs of a program by the strategy of the words, and writes the lines of the walk.
+/// Walks over the runs of a program by a strategy, and writes the lines of the walk.
 fn walk<K: Sink>(
     alloc: Global,
     compiled: &Compiled,
+    strategy: Strategy,
     words: &RunWords,
     out: &mut K,
 ) -> Result<WalkSummary, Refusal>
     requires compiles { Compiles compiled.now.checked compiled.now.tac }
     requires points { PointsToCells (core_of compiled.now.checked).layouts (params_of (core_of compiled.now.checked)) }
     requires runs { 1 ≤ (words.now).runs }
-    requires walk { (words.now).strategy ≡ Dfs → ⊥ }
-    ensures walked { IfOk result (λ w. WalkedWhole (setting compiled.now.checked (words.now).bounds (words.now).budget) (λ l. WalkOf (words.now).strategy (setting compiled.now.checked (words.now).bounds (words.now).budget) compiled.now.tac (words.now).runs (words.now).seed false l) (K.written out.old) (K.written out.new) w) }
-    ensures part { OnErr result (WalkedPart (setting compiled.now.checked (words.now).bounds (words.now).budget) (λ l. WalkOf (words.now).strategy (setting compiled.now.checked (words.now).bounds (words.now).budget) compiled.now.tac (words.now).runs (words.now).seed true l) (K.written out.old) (K.written out.new)) }
+    requires walk { strategy ≡ Dfs → ⊥ }
+    ensures walked { IfOk result (λ w. WalkedWhole (setting compiled.now.checked (words.now).bounds (words.now).budget) (λ l. WalkOf strategy (setting compiled.now.checked (words.now).bounds (words.now).budget) compiled.now.tac (words.now).runs (words.now).seed false l) (K.written out.old) (K.written out.new) w) }
+    ensures part { OnErr result (WalkedPart (setting compiled.now.checked (words.now).bounds (words.now).budget) (λ l. WalkOf strategy (setting compiled.now.checked (words.now).bounds (words.now).budget) compiled.now.tac (words.now).runs (words.now).seed true l) (K.written out.old) (K.written out.new)) }
     ensures cause { IfErr result (λ e. WriteCause (K.faults out.old) (K.faults out.new) e) }
     ensures never_falls { K.faults out.old ≤ K.faults out.new }
 {
-    match words.strategy {
+    match strategy {
         Strategy::Dfs => unreachable!(),
         Strategy::Random => walk_branches(alloc, compiled, words, out),
         Strategy::UniformRandom => walk_passes(alloc, compiled, words, out),
@@ -176,7 +177,7 @@ pub fn write_walk<K: Sink>(
         return Err(Refusal::NoMemory);
     };
     write_line(out, &first)?;
-    let summary = walk(alloc, compiled, words, out)?;
+    let summary = walk(alloc, compiled, words.strategy, words, out)?;
     let Ok(last) = ended_line(alloc, &summary) else {
         return Err(Refusal::NoMemory);
     };
