@@ -15,3 +15,7 @@ pub mod TakeLaws
 pub mod EndLaws
 pub mod FollowLaws
 pub mod LoggedLaws
+pub mod NearLaws
+pub mod CourseLaws
+pub mod NewLaws
+pub mod LedLaws
