@@ -92,15 +92,15 @@ from_map f (y ∷ l) (suc i) w e = from_map f l i w e
 
 -- ---- the alternatives of a run
 
-plain_at : (k : ℕ) (site : SiteId) (os : List Choice) → map plain (offers_at k site os) ≡ at_event k (map (λ c. c.outcome) os)
-plain_at k site [] = refl
-plain_at k site (o ∷ os) = ap (λ (r : List Candidate). (k, o.outcome) ∷ r) (plain_at k site os)
+plain_at : (s : Setting) (k : ℕ) (site : SiteId) (os : List Choice) → map plain (offers_at k site os) ≡ at_event s k (map (λ c. c.outcome) os)
+plain_at s k site [] = refl
+plain_at s k site (o ∷ os) = ap (λ (r : List Candidate). (k, o.outcome) ∷ r) (plain_at s k site os)
 
 module _ (s : Setting) (u : Input) where
   plain_from : (k : ℕ) (es : List Event) → ((i : ℕ) (e : Event) → slice_get es i ≡ Some e → others_at e ≡ (layer_of s).others u (i + k)) → map plain (offers_from k es) ≡ candidates_from s u k (map outcome_at es)
   plain_from k [] h = refl
   plain_from k (e ∷ es) h = map_append plain (offers_at k e.site e.others) (offers_from (suc k) es)
-      ∙ ap₂ (λ a b. a ++ b) (plain_at k e.site e.others ∙ ap (at_event k) (h 0 e refl)) (plain_from (suc k) es (λ i x at. h (suc i) x at ∙ ap (λ n. (layer_of s).others u n) (more i k)))
+      ∙ ap₂ (λ a b. a ++ b) (plain_at s k e.site e.others ∙ ap (at_event s k) (h 0 e refl)) (plain_from (suc k) es (λ i x at. h (suc i) x at ∙ ap (λ n. (layer_of s).others u n) (more i k)))
     where
       more : (i k : ℕ) → suc i + k ≡ i + suc k
       more i k = omega arith

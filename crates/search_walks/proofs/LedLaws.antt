@@ -53,7 +53,7 @@ module _ (s : Setting) (limit : ℕ) (t : Tac) where
       within = let p = one in omega (arith, p, h);
       ran = base_of s ∷ [];
       along = along_none s (FromBase s limit t) (FromBase s limit t) (FromCourse s limit t a (base_of s ∷ []) m.made) start new m (along_base new l m r n x)
-          (λ cuts rest d. from_same (base_of s) ((a.run).trace).input (candidates s (base_of s)) (map plain (a.open).items) (base_of s ∷ []) 1 m.made (sym input) (sym open) (sym one) cuts rest d);
+          (λ cuts rest d. from_same (base_of s) ((a.run).trace).input (candidates s (base_of s)) (map plain (a.open).items) (base_of s ∷ []) 1 m.made (sym input) (sym choices) (sym one) cuts rest d);
       covers = covers_first s start new l m r n x;
       seen = (m.covered).items;
       seen_covers = covers_first s start new l m r n x;
@@ -66,8 +66,8 @@ module _ (s : Setting) (limit : ℕ) (t : Tac) where
         input : ((a.run).trace).input ≡ base_of s
         input = ap (λ (y : Made). (y.trace).input) f.run_is ∙ x.input
 
-        open : map plain (a.open).items ≡ candidates s (base_of s)
-        open = ap (map plain) f.open_is ∙ plain_offers s r.trace r.path x.run ∙ ap (candidates s) x.input
+        choices : map plain (a.open).items ≡ candidates s (base_of s)
+        choices = ap (map plain) f.open_is ∙ plain_offers s r.trace r.path x.run ∙ ap (candidates s) x.input
 
     pub ready_fresh : (m : Log) (r : Made) (a : Course) → RunOf s r.trace r.path → length (m.covered).items ≡ 2 * length s.checked.sites → Fresh s t m r a → Ready s m a
     ready_fresh m r a run z f = record {
@@ -75,6 +75,7 @@ module _ (s : Setting) (limit : ℕ) (t : Tac) where
       offered = λ x h. subst (λ (y : Made). IsOffered (y.trace).events x) (sym f.run_is) (are_offered (r.trace).events x (subst (In x) f.open_is h));
       few = subst (λ os. length os ≤ 28672) (sym f.open_is) (few_offers s r.trace r.path run);
       size = z;
+      far = (f.distances).all;
     }
 
     -- ---- at a course
@@ -83,75 +84,76 @@ module _ (s : Setting) (limit : ℕ) (t : Tac) where
       abbrev input : Input
       input = ((a.run).trace).input
 
-      abbrev open : List Candidate
-      open = map plain (a.open).items
+      abbrev choices : List Candidate
+      choices = map plain (a.open).items
 
       pub full : limit ≤ l.made → (cuts : Bool) → Walked s (FromBase s limit t cuts) start mid l
       full h = along_end s (FromBase s limit t) (FromCourse s limit t a led.ran l.made) start mid l led.along
-          (λ cuts. let z : limit ≡ l.made = let w = led.within in omega (arith, h, w) in subst (λ k. From input open led.ran k cuts []) z (directed_full input open led.ran))
+          (λ cuts. let z : limit ≡ l.made = let w = led.within in omega (arith, h, w) in subst (λ k. From input choices led.ran k cuts []) z (directed_full input choices led.ran))
 
       pub ends_here : IsFirst (IsAtPlace s.checked (a.far).items (a.open).items) None → (cuts : Bool) → Walked s (FromBase s limit t cuts) start mid l
       ends_here n = along_end s (FromBase s limit t) (FromCourse s limit t a led.ran l.made) start mid l led.along
-          (λ cuts. directed_none_near input open led.ran l.made (no_nearest s t led.seen (a.far).items led.distances (a.run).trace (a.run).path ready.run limit cuts (a.open).items ready.offered led.ran led.seen_covers n))
+          (λ cuts. directed_none_near input choices led.ran l.made (no_nearest s t led.seen (a.far).items led.distances (a.run).trace (a.run).path ready.run limit cuts (a.open).items ready.offered led.ran led.seen_covers n))
 
       pub cut_here : (new : Option (List ℕ)) → new ≡ mid → WalkedSome s (FromBase s limit t true) start new
-      cut_here new e = along_cut s (FromBase s limit t) (FromCourse s limit t a led.ran l.made) start mid new l led.along e (directed_cut_off input open led.ran l.made refl)
+      cut_here new e = along_cut s (FromBase s limit t) (FromCourse s limit t a led.ran l.made) start mid new l led.along e (directed_cut_off input choices led.ran l.made refl)
 
       module _ (room : l.made < limit) (j : ℕ) (x : Offer) (at : slice_get (a.open).items j ≡ Some x) (first : IsFirst (IsAtPlace s.checked (a.far).items (a.open).items) (Some j)) where
-        near : (cuts : Bool) → IsNearest s limit cuts t input led.ran open j (plain x)
+        near : (cuts : Bool) → IsNearest s limit cuts t input led.ran choices j (plain x)
         near cuts = a_nearest s t led.seen (a.far).items led.distances (a.run).trace (a.run).path ready.run limit cuts (a.open).items ready.offered led.ran led.seen_covers j x at first
 
         pub cut_within : (new : Option (List ℕ)) → TriedSome s input (plain x) mid new → WalkedSome s (FromBase s limit t true) start new
         cut_within new w = along_some s (FromBase s limit t) (FromCourse s limit t a led.ran l.made) start input (plain x) mid new l led.along w
-            (directed_cut_off input open led.ran l.made refl)
-            (λ h. directed_spent_one input open led.ran l.made [] j (plain x) room (near true) h (directed_cut_off input (without j open) led.ran l.made refl))
+            (directed_cut_off input choices led.ran l.made refl)
+            (λ h. directed_spent_one input choices led.ran l.made [] j (plain x) room (near true) h (directed_cut_off input (without j choices) led.ran l.made refl))
             (λ i y g k. one i y g k (new_or s i led.ran (l.covered).items led.covers limit true))
           where
-            one : (i : Input) (y : Item) → Gives s input (prediction s input (plain x)) i → IsItemOf s i (prediction s input (plain x)) y → IsNew s limit true i led.ran ⊎ (IsNew s limit true i led.ran → ⊥) → From input open led.ran l.made true (y ∷ [])
-            one i y g k (inl w) = directed_new_one input open led.ran l.made [] j (plain x) i y room (near true) g k w (directed_cut_off i (candidates s i) (i ∷ led.ran) (suc l.made) refl)
-            one i y g k (inr w) = directed_old_one input open led.ran l.made [] j (plain x) i y room (near true) g k w (directed_cut_off input (without j open) (i ∷ led.ran) (suc l.made) refl)
+            one : (i : Input) (y : Item) → Gives s input (prediction s input (plain x)) i → IsItemOf s i (prediction s input (plain x)) y → IsNew s limit true i led.ran ⊎ (IsNew s limit true i led.ran → ⊥) → From input choices led.ran l.made true (y ∷ [])
+            one i y g k (inl w) = directed_new_one input choices led.ran l.made [] j (plain x) i y room (near true) g k w (directed_cut_off i (candidates s i) (i ∷ led.ran) (suc l.made) refl)
+            one i y g k (inr w) = directed_old_one input choices led.ran l.made [] j (plain x) i y room (near true) g k w (directed_cut_off input (without j choices) (i ∷ led.ran) (suc l.made) refl)
 
         -- the course goes on without the candidate
         module _ (b : Course) (m : Log) (new : Option (List ℕ)) (same_run : b.run ≡ a.run) (same_far : (b.far).items ≡ (a.far).items) (one_less : (b.open).items ≡ without j (a.open).items) where
           input_is : ((b.run).trace).input ≡ input
           input_is = ap (λ (y : Made). (y.trace).input) same_run
 
-          open_is : map plain (b.open).items ≡ without j open
+          open_is : map plain (b.open).items ≡ without j choices
           open_is = ap (map plain) one_less ∙ map_without plain j (a.open).items
 
-          ready_less : length (m.covered).items ≡ 2 * length s.checked.sites → Ready s m b
+          pub ready_less : length (m.covered).items ≡ 2 * length s.checked.sites → Ready s m b
           ready_less z = record {
             run = subst (λ (y : Made). RunOf s y.trace y.path) (sym same_run) ready.run;
             offered = λ y h. subst (λ (w : Made). IsOffered (w.trace).events y) (sym same_run) (ready.offered y (in_without y j (a.open).items (subst (In y) one_less h)));
             few = let p = ap length one_less in let q = shorter j (a.open).items (slice_get_within (a.open).items j x at) in let r = ready.few in omega (arith, p, q, r);
             size = z;
+            far = ap length same_far ∙ ready.far;
           }
 
           pub fewer_none : m.made ≡ l.made → left limit m b < left limit l a
           fewer_none e = let p = ap length one_less in let q = shorter j (a.open).items (slice_get_within (a.open).items j x at) in let r = ap (λ n. (limit - n) * 28673) e in omega (arith, p, q, r)
 
-          led_as : (ran : List Input) (k : ℕ) → m.made ≡ k → (k ≤ limit) → Covers s ran (m.covered).items → Covers s ran led.seen → Along s (FromBase s limit t) (From input (without j open) ran k) start new m → Led s limit t start new m b
+          led_as : (ran : List Input) (k : ℕ) → m.made ≡ k → (k ≤ limit) → Covers s ran (m.covered).items → Covers s ran led.seen → Along s (FromBase s limit t) (From input (without j choices) ran k) start new m → Led s limit t start new m b
           led_as ran k e h c d w = record {
             within = omega (arith, e, h);
             ran = ran;
-            along = along_none s (FromBase s limit t) (From input (without j open) ran k) (FromCourse s limit t b ran m.made) start new m w
-                (λ cuts rest y. from_same input ((b.run).trace).input (without j open) (map plain (b.open).items) ran k m.made (sym input_is) (sym open_is) (sym e) cuts rest y);
+            along = along_none s (FromBase s limit t) (From input (without j choices) ran k) (FromCourse s limit t b ran m.made) start new m w
+                (λ cuts rest y. from_same input ((b.run).trace).input (without j choices) (map plain (b.open).items) ran k m.made (sym input_is) (sym open_is) (sym e) cuts rest y);
             covers = c;
             seen = led.seen;
             seen_covers = d;
             distances = subst (AreDistances s.checked t led.seen) (sym same_far) led.distances;
           }
 
-          led_same : m ≡ l → Along s (FromBase s limit t) (From input (without j open) led.ran l.made) start new l → Led s limit t start new m b
+          led_same : m ≡ l → Along s (FromBase s limit t) (From input (without j choices) led.ran l.made) start new l → Led s limit t start new m b
           led_same e w = led_as led.ran l.made (ap (λ (y : Log). y.made) e) led.within (subst (λ (y : Log). Covers s led.ran (y.covered).items) (sym e) led.covers) led.seen_covers
-              (subst (λ (y : Log). Along s (FromBase s limit t) (From input (without j open) led.ran l.made) start new y) (sym e) w)
+              (subst (λ (y : Log). Along s (FromBase s limit t) (From input (without j choices) led.ran l.made) start new y) (sym e) w)
 
           pub led_none : (o : Option Tried) → o ≡ None → TriedOne s input (plain x) mid new l m o → Led s limit t start new m b
-          led_none None e (no_input h w z) = led_same z (along_none s (FromBase s limit t) (FromCourse s limit t a led.ran l.made) (From input (without j open) led.ran l.made) start new l
+          led_none None e (no_input h w z) = led_same z (along_none s (FromBase s limit t) (FromCourse s limit t a led.ran l.made) (From input (without j choices) led.ran l.made) start new l
               (subst (λ o. Along s (FromBase s limit t) (FromCourse s limit t a led.ran l.made) start o l) (sym w) led.along)
-              (λ cuts rest d. directed_never_one input open led.ran l.made rest j (plain x) room (near cuts) h d))
-          led_none None e (past_budget h w z) = led_same z (along_spent s (FromBase s limit t) (FromCourse s limit t a led.ran l.made) (From input (without j open) led.ran l.made) start mid new l (prediction s input (plain x)) led.along w
-              (λ cuts rest d. directed_spent_one input open led.ran l.made rest j (plain x) room (near cuts) h d))
+              (λ cuts rest d. directed_never_one input choices led.ran l.made rest j (plain x) room (near cuts) h d))
+          led_none None e (past_budget h w z) = led_same z (along_spent s (FromBase s limit t) (FromCourse s limit t a led.ran l.made) (From input (without j choices) led.ran l.made) start mid new l (prediction s input (plain x)) led.along w
+              (λ cuts rest d. directed_spent_one input choices led.ran l.made rest j (plain x) room (near cuts) h d))
           led_none (Some y) e w = absurd (no_some e)
             where
               no_some : Some y ≡ None → ⊥
@@ -172,8 +174,8 @@ module _ (s : Setting) (limit : ℕ) (t : Tac) where
               from i z q g f = led_as (i ∷ led.ran) (suc l.made) (f.counted).made (let r = room in omega (arith, r))
                   (covers_run s led.ran i (((layer_of s).runs).end i) l m z.is_new f.counted led.covers)
                   (covers_old s led.ran limit true i led.seen led.seen_covers (none true))
-                  (along_run s (FromBase s limit t) (FromCourse s limit t a led.ran l.made) (From input (without j open) (i ∷ led.ran) (suc l.made)) start i (prediction s input (plain x)) mid new l m z led.along f
-                  (λ cuts rest d. directed_old_one input open led.ran l.made rest j (plain x) i f.item room (near cuts) g f.is_item (none cuts) d))
+                  (along_run s (FromBase s limit t) (FromCourse s limit t a led.ran l.made) (From input (without j choices) (i ∷ led.ran) (suc l.made)) start i (prediction s input (plain x)) mid new l m z led.along f
+                  (λ cuts rest d. directed_old_one input choices led.ran l.made rest j (plain x) i f.item room (near cuts) g f.is_item (none cuts) d))
                 where
                   none : (cuts : Bool) → IsNew s limit cuts i led.ran → ⊥
                   none cuts = not_new s led.ran limit cuts i (((layer_of s).runs).end i) l m z.is_new f.counted led.covers (ap (λ (v : Tried). v.is_new) q ∙ e)
@@ -189,7 +191,7 @@ module _ (s : Setting) (limit : ℕ) (t : Tac) where
         module _ (m : Log) (new : Option (List ℕ)) (y : Tried) (fresh : y.is_new ≡ true) where
           along_new : (i : Input) (f : Followed s i (prediction s input (plain x)) mid new l m y) → Gives s input (prediction s input (plain x)) i → Along s (FromBase s limit t) (From i (candidates s i) (i ∷ led.ran) (suc l.made)) start new m
           along_new i f g = along_run s (FromBase s limit t) (FromCourse s limit t a led.ran l.made) (From i (candidates s i) (i ∷ led.ran) (suc l.made)) start i (prediction s input (plain x)) mid new l m y led.along f
-              (λ cuts rest d. directed_new_one input open led.ran l.made rest j (plain x) i f.item room (near cuts) g f.is_item (is_new s led.ran limit cuts i (((layer_of s).runs).end i) l m y.is_new f.counted led.covers fresh) d)
+              (λ cuts rest d. directed_new_one input choices led.ran l.made rest j (plain x) i f.item room (near cuts) g f.is_item (is_new s led.ran limit cuts i (((layer_of s).runs).end i) l m y.is_new f.counted led.covers fresh) d)
 
           -- what came, where the run was made
           record Came (i : Input) : Type 0 where

@@ -26,6 +26,10 @@ module _ (Q R S : ℕ → Type 0) (f : (d : ℕ) → Q d ⊎ R d → S d) (g : (
 
 -- ---- sites
 
+pub entry_below : (n k : ℕ) (side : Bool) → n < k → entry n side < 2 * k
+entry_below n k false h = omega (arith, h)
+entry_below n k true h = omega (arith, h)
+
 module _ (c : Checked) (v : List (Option ℕ)) (token : ℕ) (side : Bool) where
   pub site_none : (site : ℕ) → (IsDecisionSite c site → ⊥) → IsLeast (IsAtSite c v token side site) None
   site_none site n = λ d x. n x.is_site

@@ -45,6 +45,7 @@ pub record Ready (s : Setting) (log : Log) (course : Course) : Type 0 where
   pub offered : (x : Offer) → In x (course.open).items → IsOffered ((course.run).trace).events x
   pub few : length (course.open).items ≤ 28672
   pub size : length (log.covered).items ≡ 2 * length s.checked.sites
+  pub far : length (course.far).items ≡ 2 * length s.checked.sites
 
 -- a bound of the steps that are left
 abbrev pub left : ℕ → Log → Course → ℕ

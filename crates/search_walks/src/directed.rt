@@ -1,9 +1,10 @@
 //! The control-flow directed walk, step by step.
 
-ghost use Rattle.std.specs.Prelude.{◌≡◌, ◌<◌, ◌≤◌, ◌*◌, ◌∷◌, [], Bool, true, ℕ, List, Option as PlainOption, length, IfOk, IfErr, OnOk, OnErr};
+ghost use Rattle.std.specs.Prelude.{◌≡◌, ◌<◌, ◌≤◌, ◌+◌, ◌*◌, ◌∷◌, [], Bool, true, ℕ, List, Option as PlainOption, length, IfOk, IfErr, OnOk, OnErr};
 ghost use Rattle.search_walks.specs.Backwards.{FlowUpTo};
 ghost use Rattle.search_walks.specs.Counted.{Nothing};
 ghost use Rattle.search_walks.specs.Course.{Fresh, Ready, Led, Went, left, FromBase};
+ghost use Rattle.search_walks.specs.Distance.{entry};
 ghost use Rattle.search_walks.specs.Logged.{Walked, WalkedSome};
 ghost use Rattle.search_walks.specs.Made.{RunOf};
 ghost use Rattle.search_walks.specs.Nearest.{IsLeast, lesser, nearer, IsAtSite, IsAtToken, IsAtOffer, IsAtPlace, IsFirst};
@@ -43,6 +44,15 @@ fn lesser(a: Option<u32>, b: Option<u32>) -> Option<u32>
     }
 }
 
+/// The number of an outcome of the site with this number.
+fn number_at(site: usize, side: bool) -> usize
+    requires { 2 * site + 1 < 18446744073709551616 }
+    ensures { result ≡ entry site side }
+{
+    let first = 2 * site;
+    if side { first + 1 } else { first }
+}
+
 /// The distance of the outcome of a site, where it is a decision site of the token.
 fn distance_at_site(
     distances: &[Option<u32>],
@@ -51,17 +61,20 @@ fn distance_at_site(
     site: usize,
     side: bool,
 ) -> Option<u32>
-    requires { site < length (checked.now).sites }
+    requires site { site < length (checked.now).sites }
+    requires size { length distances.now ≡ 2 * length (checked.now).sites }
     ensures { IsLeast (IsAtSite checked.now distances.now token side site) result }
 {
-    if !is_decision_site(checked, site) || token_of(checked, site) != token {
+    if !is_decision_site(checked, site) {
         return None;
     }
-    let first = 2 * site;
-    match distances.get(if side { first + 1 } else { first }) {
-        Some(distance) => *distance,
-        None => None,
+    let own = token_of(checked, site);
+    if own != token {
+        return None;
     }
+    let _places = distances.len();
+    let at = number_at(site, side);
+    distances[at]
 }
 
 /// The least distance of the outcomes of the decision sites of a token.
@@ -71,6 +84,7 @@ fn distance_at_token(
     token: u32,
     side: bool,
 ) -> Option<u32>
+    requires { length distances.now ≡ 2 * length (checked.now).sites }
     ensures { IsLeast (IsAtToken checked.now distances.now token side (length (checked.now).sites)) result }
 {
     let mut least = None;
@@ -86,6 +100,7 @@ fn distance_of(
     checked: &Checked,
     candidate: Candidate,
 ) -> Option<u32>
+    requires { length distances.now ≡ 2 * length (checked.now).sites }
     ensures { IsLeast (IsAtOffer checked.now distances.now candidate) result }
 {
     if !is_decision(checked, candidate.site) {
@@ -124,6 +139,7 @@ fn nearer(
 
 /// The place of the first candidate of least finite distance.
 fn nearest(open: &[Candidate], distances: &[Option<u32>], checked: &Checked) -> Option<usize>
+    requires { length distances.now ≡ 2 * length (checked.now).sites }
     ensures { IsFirst (IsAtPlace checked.now distances.now open.now) result }
 {
     let mut least = None;
@@ -181,11 +197,14 @@ impl Course {
         };
         let candidate = self.open.remove(at);
         let tried = log.try_one(task, &self.run, candidate.event, candidate.outcome, out)?;
-        if let Some(tried) = tried {
-            if tried.is_new {
-                *self = Course::new(task, flow, log, tried.run)?;
-            }
+        let Some(tried) = tried else {
+            return Ok(true);
+        };
+        if !tried.is_new {
+            return Ok(true);
         }
+        let next = Course::new(task, flow, log, tried.run)?;
+        *self = next;
         Ok(true)
     }
 }
@@ -204,11 +223,13 @@ pub(crate) fn directed_walk<K: Sink>(
     ensures sink { IfErr result (λ e. SinkCause (K.faults out.old) (K.faults out.new) e) }
     ensures never_falls { K.faults out.old ≤ K.faults out.new }
 {
+    let _lowest = task.bounds.lo();
     let base = log.begin(task, out)?;
     let flow = Flow::new(task.alloc, task.checked, task.tac)?;
     let mut course = Course::new(task, &flow, log, base)?;
-    while log.made < task.limit {
-        if !course.step(task, &flow, log, out)? {
+    'steps: while log.made < task.limit {
+        let goes_on = course.step(task, &flow, log, out)?;
+        if !goes_on {
             return Ok(());
         }
     }

@@ -249,6 +249,7 @@ pub fn cfg_directed<K: Sink>(
         limit: runs,
         budget,
     };
+    let _lowest = bounds.lo();
     let mut log = Log::new(alloc, checked)?;
     directed_walk(&task, &mut log, out)?;
     log.finish(&task, out)
