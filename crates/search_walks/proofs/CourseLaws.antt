@@ -43,6 +43,10 @@ pub map_append : {A B : Type 0} → (f : A → B) (l m : List A) → map f (l ++
 map_append f [] m = refl
 map_append f (x ∷ l) m = ap (λ r. f x ∷ r) (map_append f l m)
 
+pub length_map : {A B : Type 0} → (f : A → B) (l : List A) → length (map f l) ≡ length l
+length_map f [] = refl
+length_map f (x ∷ l) = ap (λ n. suc n) (length_map f l)
+
 map_take : {A B : Type 0} → (f : A → B) (n : ℕ) (l : List A) → map f (take n l) ≡ take n (map f l)
 map_take f zero l = refl
 map_take f (suc n) [] = refl
@@ -100,8 +104,11 @@ module _ (s : Setting) (u : Input) where
   plain_from : (k : ℕ) (es : List Event) → ((i : ℕ) (e : Event) → slice_get es i ≡ Some e → others_at e ≡ (layer_of s).others u (i + k)) → map plain (offers_from k es) ≡ candidates_from s u k (map outcome_at es)
   plain_from k [] h = refl
   plain_from k (e ∷ es) h = map_append plain (offers_at k e.site e.others) (offers_from (suc k) es)
-      ∙ ap₂ (λ a b. a ++ b) (plain_at s k e.site e.others ∙ ap (at_event s k) (h 0 e refl)) (plain_from (suc k) es (λ i x at. h (suc i) x at ∙ ap (λ n. (layer_of s).others u n) (more i k)))
+      ∙ ap₂ (λ a b. a ++ b) (plain_at s k e.site e.others ∙ ap (at_event s k) (h 0 e refl ∙ ap (λ n. (layer_of s).others u n) (first k))) (plain_from (suc k) es (λ i x at. h (suc i) x at ∙ ap (λ n. (layer_of s).others u n) (more i k)))
     where
+      first : (k : ℕ) → 0 + k ≡ k
+      first k = omega arith
+
       more : (i k : ℕ) → suc i + k ≡ i + suc k
       more i k = omega arith
 
@@ -122,7 +129,7 @@ offered_from k (e ∷ es) x h = by (in_either x (offers_at k e.site e.others) (o
   where
     by : In x (offers_at k e.site e.others) ⊎ In x (offers_from (suc k) es) → (In x (offers_from (suc k) es) → (i : ℕ) × (x.event ≡ i + suc k) × (y : Event) × (slice_get es i ≡ Some y) × (x.site ≡ y.site) × In x.outcome (others_at y)) →
         (i : ℕ) × (x.event ≡ i + k) × (y : Event) × (slice_get (e ∷ es) i ≡ Some y) × (x.site ≡ y.site) × In x.outcome (others_at y)
-    by (inl a) rest = let r = offered_at k e.site e.others x a in (0, r.0, e, refl, r.1, r.2)
+    by (inl a) rest = let r = offered_at k e.site e.others x a in (0, (let q = r.0 in omega (arith, q)), e, refl, r.1, r.2)
     by (inr a) rest = let r = rest a in (suc r.0, (let q = r.1 in omega (arith, q)), r.2, r.3, r.4, r.5)
 
 pub are_offered : (es : List Event) (x : Offer) → In x (offers_from 0 es) → IsOffered es x

@@ -1,13 +1,15 @@
 -- A directed walk, step by step.
-use Rattle.std.proofs.Common.{◌≡◌, ◌<◌, ◌≤◌, ◌⊎◌, ◌↔◌, inl, inr, ℕ, zero, suc, ◌+◌, ◌-◌, ◌*◌, Bool, true, false, List, [], ◌∷◌, ◌++◌, length, map, Option, Some, None, slice_get, refl, sym, ◌∙◌, subst, ap, arith}
+use Rattle.std.proofs.Common.{◌≡◌, ◌<◌, ◌≤◌, ◌⊎◌, ◌↔◌, inl, inr, ℕ, zero, suc, ◌+◌, ◌-◌, ◌*◌, Bool, true, false, List, [], ◌∷◌, ◌++◌, length, get_or, map, Option, Some, None, slice_get, refl, sym, ◌∙◌, subst, ap, arith}
 use Rattle.std.proofs.lemmas.Option.{slice_get_within}
 use Rattle.cc_base.specs.declared.inputs.Input.{Input}
 use Rattle.cc_base.specs.Limits.{InRange}
 use Rattle.cc_base.specs.Paths.{Path, In}
+use Rattle.cc_model.specs.declared.checked.Checked.{Checked}
 use Rattle.cc_model.specs.Listing.{Item, spent_item}
 use Rattle.cc_model.specs.Report.{item_line}
 use Rattle.cc_outside.specs.Told.{appended, WritesPart}
 use Rattle.sym_run.specs.declared.trace.Event.{Event}
+use Rattle.sym_run.specs.Traces.{outcome_at}
 use Rattle.tac_lower.specs.declared.tac.Tac.{Tac}
 use Rattle.search_walks.specs.declared.candidates.Candidate.{Candidate as Offer}
 use Rattle.search_walks.specs.declared.directed.Course.{Course}
@@ -24,9 +26,64 @@ use Rattle.search_walks.specs.Offers.{offers_from}
 use Rattle.search_walks.specs.Setting.{Setting, layer_of, base_of}
 use Rattle.search_walks.specs.Steps.{Followed, Started, TriedOne, no_input, past_budget, was_run, TriedSome, base_item}
 use Rattle.search_walks.specs.Walks.{Candidate, candidates, without, prediction, Gives, IsItemOf, IsNever, IsSpent, IsNew, IsNearest, HasNone, Directed, directed_full, directed_none_near, directed_cut_off, directed_never_one, directed_spent_one, directed_new_one, directed_old_one}
-use Rattle.search_walks.proofs.CourseLaws.{map_without, in_without, shorter, plain_offers, are_offered, few_offers, covers_first, covers_run, covers_old, is_new, not_new, no_nearest, a_nearest}
+use Rattle.search_walks.proofs.CourseLaws.{length_map, map_without, in_at, in_without, shorter, plain_offers, are_offered, few_offers, covers_first, covers_run, covers_old, is_new, not_new, no_nearest, a_nearest}
 use Rattle.search_walks.proofs.LoggedLaws.{along_first, along_none, along_spent, along_run, along_end, along_cut, along_some, cut_at_first}
 use Rattle.search_walks.proofs.NewLaws.{new_or}
+use Rattle.search_walks.proofs.TermLaws.{there_is}
+
+-- ---- what is left
+
+module _ (s : Setting) (t : Tac) where
+  pub ready_fresh : (m : Log) (r : Made) (a : Course) → RunOf s r.trace r.path → length (m.covered).items ≡ 2 * length s.checked.sites → Fresh s t m r a → Ready s m a
+  ready_fresh m r a run z f = record {
+    run = subst (λ (y : Made). RunOf s y.trace y.path) (sym f.run_is) run;
+    offered = λ x h. subst (λ (y : Made). IsOffered (y.trace).events x) (sym f.run_is) (are_offered (r.trace).events x (subst (In x) f.open_is h));
+    few = subst (λ os. length os ≤ 28672) (sym f.open_is) (few_offers s r.trace r.path run);
+    size = z;
+    far = (f.distances).all;
+  }
+
+module _ (s : Setting) (l : Log) (a : Course) (ready : Ready s l a) (j : ℕ) (x : Offer) (at : slice_get (a.open).items j ≡ Some x) where
+  pub event_there : x.event < length (a.run).path
+  event_there =
+      let o = ready.offered x (in_at (a.open).items j x at) in
+      let h = slice_get_within ((a.run).trace).events x.event o.event o.is in
+      let n = ap length (ready.run).outcomes in
+      let k = length_map outcome_at ((a.run).trace).events in
+      omega (arith, h, n, k)
+
+  pub is_other : In x.outcome ((layer_of s).others ((a.run).trace).input x.event)
+  is_other = let o = ready.offered x (in_at (a.open).items j x at) in subst (In x.outcome) ((ready.run).others x.event o.event o.is) o.other
+
+  module _ (m : Log) (b : Course) (one_less : (b.open).items ≡ without j (a.open).items) where
+    pub ready_less : b.run ≡ a.run → (b.far).items ≡ (a.far).items → length (m.covered).items ≡ 2 * length s.checked.sites → Ready s m b
+    ready_less same_run same_far z = record {
+      run = subst (λ (y : Made). RunOf s y.trace y.path) (sym same_run) ready.run;
+      offered = λ y h. subst (λ (w : Made). IsOffered (w.trace).events y) (sym same_run) (ready.offered y (in_without y j (a.open).items (subst (In y) one_less h)));
+      few = let p = ap length one_less in let q = shorter j (a.open).items (slice_get_within (a.open).items j x at) in let r = ready.few in omega (arith, p, q, r);
+      size = z;
+      far = ap length same_far ∙ ready.far;
+    }
+
+    pub fewer_none : (limit : ℕ) → m ≡ l → left limit m b < left limit l a
+    fewer_none limit e = let p = ap length one_less in let q = shorter j (a.open).items (slice_get_within (a.open).items j x at) in let r = ap (λ (y : Log). (limit - y.made) * 28673) e in omega (arith, p, q, r)
+
+-- the nearest place is one of the list's
+place_there : (c : Checked) (v : List (Option ℕ)) (cs : List Offer) (j : ℕ) → IsFirst (IsAtPlace c v cs) (Some j) → j < length cs
+place_there c v cs j h = let w = h.1 in slice_get_within cs j w.offer w.is
+
+pub below_all : (c : Checked) (v : List (Option ℕ)) (cs ds : List Offer) (j : ℕ) → cs ≡ ds → IsFirst (IsAtPlace c v cs) (Some j) → j < length ds
+below_all c v cs ds j e h = subst (λ y. j < length y) e (place_there c v cs j h)
+
+pub found : (c : Checked) (v : List (Option ℕ)) (cs ds : List Offer) (j : ℕ) (x : Offer) → cs ≡ ds → IsFirst (IsAtPlace c v cs) (Some j) → x ≡ get_or ds j x → slice_get ds j ≡ Some x
+found c v cs ds j x e h f = there_is ds j x (below_all c v cs ds j e h) f
+
+pub less_few : (os ps : List Offer) (j : ℕ) (x : Offer) → ps ≡ without j os → slice_get os j ≡ Some x → length os ≤ 28672 → length ps ≤ 28672
+less_few os ps j x e at h = let p = ap length e in let q = shorter j os (slice_get_within os j x at) in omega (arith, p, q, h)
+
+-- the nearest place, whatever the lists are called
+pub first_at : (c : Checked) (v w : List (Option ℕ)) (cs ds : List Offer) (o : Option ℕ) → v ≡ w → cs ≡ ds → IsFirst (IsAtPlace c v cs) o → IsFirst (IsAtPlace c w ds) o
+first_at c v w cs ds o e f h = subst (λ y. IsFirst (IsAtPlace c y ds) o) e (subst (λ y. IsFirst (IsAtPlace c v y) o) f h)
 
 module _ (s : Setting) (limit : ℕ) (t : Tac) where
   -- from a run with alternatives, inputs that were run, and a number of runs
@@ -68,15 +125,6 @@ module _ (s : Setting) (limit : ℕ) (t : Tac) where
 
         choices : map plain (a.open).items ≡ candidates s (base_of s)
         choices = ap (map plain) f.open_is ∙ plain_offers s r.trace r.path x.run ∙ ap (candidates s) x.input
-
-    pub ready_fresh : (m : Log) (r : Made) (a : Course) → RunOf s r.trace r.path → length (m.covered).items ≡ 2 * length s.checked.sites → Fresh s t m r a → Ready s m a
-    ready_fresh m r a run z f = record {
-      run = subst (λ (y : Made). RunOf s y.trace y.path) (sym f.run_is) run;
-      offered = λ x h. subst (λ (y : Made). IsOffered (y.trace).events x) (sym f.run_is) (are_offered (r.trace).events x (subst (In x) f.open_is h));
-      few = subst (λ os. length os ≤ 28672) (sym f.open_is) (few_offers s r.trace r.path run);
-      size = z;
-      far = (f.distances).all;
-    }
 
     -- ---- at a course
 
@@ -120,18 +168,6 @@ module _ (s : Setting) (limit : ℕ) (t : Tac) where
           open_is : map plain (b.open).items ≡ without j choices
           open_is = ap (map plain) one_less ∙ map_without plain j (a.open).items
 
-          pub ready_less : length (m.covered).items ≡ 2 * length s.checked.sites → Ready s m b
-          ready_less z = record {
-            run = subst (λ (y : Made). RunOf s y.trace y.path) (sym same_run) ready.run;
-            offered = λ y h. subst (λ (w : Made). IsOffered (w.trace).events y) (sym same_run) (ready.offered y (in_without y j (a.open).items (subst (In y) one_less h)));
-            few = let p = ap length one_less in let q = shorter j (a.open).items (slice_get_within (a.open).items j x at) in let r = ready.few in omega (arith, p, q, r);
-            size = z;
-            far = ap length same_far ∙ ready.far;
-          }
-
-          pub fewer_none : m.made ≡ l.made → left limit m b < left limit l a
-          fewer_none e = let p = ap length one_less in let q = shorter j (a.open).items (slice_get_within (a.open).items j x at) in let r = ap (λ n. (limit - n) * 28673) e in omega (arith, p, q, r)
-
           led_as : (ran : List Input) (k : ℕ) → m.made ≡ k → (k ≤ limit) → Covers s ran (m.covered).items → Covers s ran led.seen → Along s (FromBase s limit t) (From input (without j choices) ran k) start new m → Led s limit t start new m b
           led_as ran k e h c d w = record {
             within = omega (arith, e, h);
@@ -155,14 +191,6 @@ module _ (s : Setting) (limit : ℕ) (t : Tac) where
           led_none None e (past_budget h w z) = led_same z (along_spent s (FromBase s limit t) (FromCourse s limit t a led.ran l.made) (From input (without j choices) led.ran l.made) start mid new l (prediction s input (plain x)) led.along w
               (λ cuts rest d. directed_spent_one input choices led.ran l.made rest j (plain x) room (near cuts) h d))
           led_none (Some y) e w = absurd (no_some e)
-            where
-              no_some : Some y ≡ None → ⊥
-              no_some f = cc f
-
-          pub same_log : (o : Option Tried) → o ≡ None → TriedOne s input (plain x) mid new l m o → m ≡ l
-          same_log None e (no_input h w z) = z
-          same_log None e (past_budget h w z) = z
-          same_log (Some y) e w = absurd (no_some e)
             where
               no_some : Some y ≡ None → ⊥
               no_some f = cc f
@@ -251,6 +279,17 @@ module _ (s : Setting) (u : Input) (c : Candidate) (mid new : Option (List ℕ))
           no_none : None ≡ Some y → ⊥
           no_none f = cc f
       by (Some z) q (was_run i z' g f) = let e : z ≡ y = cc q in subst IsMade e (record { run = f.run; made = (f.counted).made; size = ((f.counted).covered).size })
+
+  pub same_log : (o : Option Tried) → o ≡ None → TriedOne s u c mid new l m o → m ≡ l
+  same_log None e (no_input h w z) = z
+  same_log None e (past_budget h w z) = z
+  same_log (Some y) e w = absurd (no_some e)
+    where
+      no_some : Some y ≡ None → ⊥
+      no_some f = cc f
+
+  pub tried_as : (o p : Option Tried) → o ≡ p → TriedOne s u c mid new l m o → TriedOne s u c mid new l m p
+  tried_as o p e h = subst (TriedOne s u c mid new l m) e h
 
 pub fewer_run : (limit : ℕ) (l m : Log) (a b : Course) → m.made ≡ suc l.made → l.made < limit → length (b.open).items ≤ 28672 → left limit m b < left limit l a
 fewer_run limit l m a b e h f = let r = ap (λ n. (limit - n) * 28673) e in omega (arith, r, e, h, f)

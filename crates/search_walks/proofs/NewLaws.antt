@@ -100,8 +100,8 @@ module _ (s : Setting) (u : Input) where
   takes_or n side = by (below (Taken n side) (taken_at n side) (length (run_of (core_of s.checked) s.limits u).log))
     where
       by : Decided ((k : ℕ) × (k < length (run_of (core_of s.checked) s.limits u).log) × Taken n side k) → Decided (Takes s u n side)
-      by (inl w) = inl (w.0, w.2)
-      by (inr n) = inr (λ w. n (w.0, slice_get_within (run_of (core_of s.checked) s.limits u).log w.0 w.1 w.3, w.1, w.2, w.3, w.4))
+      by (inl w) = inl (w.0, (w.2).0, (w.2).1, (w.2).2, (w.2).3)
+      by (inr n) = inr (λ w. n (w.0, slice_get_within (run_of (core_of s.checked) s.limits u).log w.0 w.1 w.3, (w.1, w.2, w.3, w.4)))
 
   module _ (ran : List Input) (covered : List Bool) (c : Covers s ran covered) where
     abbrev Newly : ℕ → Bool → Type 0

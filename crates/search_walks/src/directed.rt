@@ -173,7 +173,7 @@ impl Course {
         Ok(Course { run, open, far })
     }
 
-    /// Tries the nearest alternative; false where none has a distance.
+    /// Tries the nearest alternative; false where none has a distance, or all runs were made.
     fn step<K: Sink>(
         &mut self,
         task: &Task<'_>,
@@ -183,7 +183,6 @@ impl Course {
     ) -> Result<bool, SearchFault>
         requires known { Known task.now }
         requires flow { FlowUpTo (task.now.checked).now (task.now.tac).now (length (task.now.tac).now.code) flow.now.before.rows.items flow.now.outcomes.rows.items flow.now.decisions.rows.items }
-        requires room { log.old.made < task.now.limit }
         requires ready { Ready (setting_of task.now) log.old self.old }
         ensures ready { OnOk result (Ready (setting_of task.now) log.new self.new) }
         ensures fewer { IfOk result (λ b. b ≡ true → left task.now.limit log.new self.new < left task.now.limit log.old self.old) }
@@ -192,19 +191,19 @@ impl Course {
         ensures sink { IfErr result (λ e. SinkCause (K.faults out.old) (K.faults out.new) e) }
         ensures never_falls { K.faults out.old ≤ K.faults out.new }
     {
+        if log.made >= task.limit {
+            return Ok(false);
+        }
         let Some(at) = nearest(&self.open, &self.far, task.checked) else {
             return Ok(false);
         };
         let candidate = self.open.remove(at);
         let tried = log.try_one(task, &self.run, candidate.event, candidate.outcome, out)?;
-        let Some(tried) = tried else {
-            return Ok(true);
-        };
-        if !tried.is_new {
-            return Ok(true);
+        if let Some(tried) = tried {
+            if tried.is_new {
+                *self = Course::new(task, flow, log, tried.run)?;
+            }
         }
-        let next = Course::new(task, flow, log, tried.run)?;
-        *self = next;
         Ok(true)
     }
 }
@@ -227,11 +226,10 @@ pub(crate) fn directed_walk<K: Sink>(
     let base = log.begin(task, out)?;
     let flow = Flow::new(task.alloc, task.checked, task.tac)?;
     let mut course = Course::new(task, &flow, log, base)?;
-    'steps: while log.made < task.limit {
+    'steps: loop {
         let goes_on = course.step(task, &flow, log, out)?;
         if !goes_on {
             return Ok(());
         }
     }
-    Ok(())
 }

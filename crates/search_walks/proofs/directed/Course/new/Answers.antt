@@ -1,14 +1,11 @@
-use Rattle.std.proofs.Common.{◌≡◌, ◌≤◌, length, subst, sym, ap, ◌∙◌}
+use Rattle.std.proofs.Common.{refl, subst, ap, ◌∙◌}
 use Rattle.search_walks.specs.Distance.{AreDistances}
 use Rattle.search_walks.specs.Offers.{offers_from}
-use Rattle.search_walks.specs.Task.{setting_of}
 use Rattle.search_walks.proofs.directed.Course.new.Goals as goal
 
-pub candidates-open-requires : goal.candidates-open-requires
-candidates-open-requires c = ?
-
-pub distances_over-far-requires : goal.distances_over-far-requires
-distances_over-far-requires c = ?
-
 pub returns : goal.returns
-returns c = ?
+returns c = record {
+  run_is = refl;
+  open_is = c.in_ok-open.ensures ∙ ap (offers_from 0) c.as_slice.ensures;
+  distances = subst (λ v. AreDistances (c.args.task.now).checked.now (c.args.task.now).tac.now v c.in_ok-far.far.items) c.deref.ensures.value c.in_ok-far.ensures;
+}
