@@ -14,8 +14,7 @@ pub mod CoverLaws
 pub mod TakeLaws
 pub mod EndLaws
 pub mod FollowLaws
+pub mod ItemLaws
 pub mod LoggedLaws
-pub mod NearLaws
-pub mod CourseLaws
-pub mod NewLaws
-pub mod LedLaws
+pub mod TriedLaws
+pub mod SumLaws
