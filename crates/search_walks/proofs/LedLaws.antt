@@ -1,5 +1,5 @@
 -- A directed walk, step by step.
-use Rattle.std.proofs.Common.{◌≡◌, ◌<◌, ◌≤◌, ◌⊎◌, ◌↔◌, inl, inr, ℕ, zero, suc, ◌+◌, ◌-◌, ◌*◌, Bool, true, false, List, [], ◌∷◌, ◌++◌, length, get_or, map, Option, Some, None, slice_get, refl, sym, ◌∙◌, subst, ap, arith}
+use Rattle.std.proofs.Common.{◌≡◌, ◌<◌, ◌≤◌, ◌⊎◌, ◌↔◌, inl, inr, ℕ, zero, suc, ◌+◌, ◌-◌, ◌*◌, Bool, true, false, List, [], ◌∷◌, ◌++◌, length, get_or, map, Option, Some, None, Result, Ok, Err, OnErr, slice_get, refl, sym, ◌∙◌, subst, ap, arith}
 use Rattle.std.proofs.lemmas.Option.{slice_get_within}
 use Rattle.cc_base.specs.declared.inputs.Input.{Input}
 use Rattle.cc_base.specs.Limits.{InRange}
@@ -65,11 +65,8 @@ module _ (s : Setting) (l : Log) (a : Course) (ready : Ready s l a) (j : ℕ) (x
       far = ap length same_far ∙ ready.far;
     }
 
-    pub fewer_none : (limit : ℕ) → m ≡ l → left limit m b < left limit l a
-    fewer_none limit e = let p = ap length one_less in let q = shorter j (a.open).items (slice_get_within (a.open).items j x at) in let r = ap (λ (y : Log). (limit - y.made) * 28673) e in omega (arith, p, q, r)
-
 -- the nearest place is one of the list's
-place_there : (c : Checked) (v : List (Option ℕ)) (cs : List Offer) (j : ℕ) → IsFirst (IsAtPlace c v cs) (Some j) → j < length cs
+pub place_there : (c : Checked) (v : List (Option ℕ)) (cs : List Offer) (j : ℕ) → IsFirst (IsAtPlace c v cs) (Some j) → j < length cs
 place_there c v cs j h = let w = h.1 in slice_get_within cs j w.offer w.is
 
 pub below_all : (c : Checked) (v : List (Option ℕ)) (cs ds : List Offer) (j : ℕ) → cs ≡ ds → IsFirst (IsAtPlace c v cs) (Some j) → j < length ds
@@ -291,5 +288,14 @@ module _ (s : Setting) (u : Input) (c : Candidate) (mid new : Option (List ℕ))
   pub tried_as : (o p : Option Tried) → o ≡ p → TriedOne s u c mid new l m o → TriedOne s u c mid new l m p
   tried_as o p e h = subst (TriedOne s u c mid new l m) e h
 
-pub fewer_run : (limit : ℕ) (l m : Log) (a b : Course) → m.made ≡ suc l.made → l.made < limit → length (b.open).items ≤ 28672 → left limit m b < left limit l a
-fewer_run limit l m a b e h f = let r = ap (λ n. (limit - n) * 28673) e in omega (arith, r, e, h, f)
+pub fewer_run : (limit k n p q : ℕ) → n ≡ suc k → k < limit → q ≤ 28672 → (limit - n) * 28673 + q < (limit - k) * 28673 + p
+fewer_run limit k n p q e h f = omega (arith, e, h, f)
+
+pub fewer_none : (limit k n : ℕ) (os ps : List Offer) (j : ℕ) (x : Offer) → n ≡ k → ps ≡ without j os → slice_get os j ≡ Some x → (limit - n) * 28673 + length ps < (limit - k) * 28673 + length os
+fewer_none limit k n os ps j x e f at = let p = ap length f in let q = shorter j os (slice_get_within os j x at) in let r = ap (λ z. (limit - z) * 28673) e in omega (arith, p, q, r)
+
+-- what is owed where a step is refused
+pub on_led : {T E : Type 0} → (r : Result T E) (s : Setting) (limit : ℕ) (t : Tac) (mid new : Option (List ℕ)) (l : Log) (a : Course) → ((start : Option (List ℕ)) → Led s limit t start mid l a → WalkedSome s (FromBase s limit t true) start new) →
+    OnErr r ((start : Option (List ℕ)) → Led s limit t start mid l a → WalkedSome s (FromBase s limit t true) start new)
+on_led (Ok x) s limit t mid new l a f = tt
+on_led (Err e) s limit t mid new l a f = f
