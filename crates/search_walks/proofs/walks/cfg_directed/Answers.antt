@@ -9,7 +9,7 @@ use Rattle.search_walks.proofs.walks.cfg_directed.Goals as goal
 pub returns-in_err-log-clause-part : goal.returns-in_err-log-clause-part
 returns-in_err-log-clause-part g c =
     let s = setting c.args.checked.now c.args.bounds.now c.args.budget in
-    on_err _ (part_of_none s (FromBase s c.args.runs c.args.tac.now) _ c.lo-_lowest.ensures.in_range _ refl (directed_cut_off (base_of s) (candidates s (base_of s)) (base_of s ∷ []) 1 refl))
+    on_err _ (part_of_none s (FromBase s c.args.runs c.args.tac.now) _ c.lo-lowest.ensures.in_range _ refl (directed_cut_off (base_of s) (candidates s (base_of s)) (base_of s ∷ []) 1 refl))
 
 pub returns-in_err-directed_walk-clause-part : goal.returns-in_err-directed_walk-clause-part
 returns-in_err-directed_walk-clause-part g c =
