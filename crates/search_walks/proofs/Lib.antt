@@ -18,3 +18,7 @@ pub mod ItemLaws
 pub mod LoggedLaws
 pub mod TriedLaws
 pub mod SumLaws
+pub mod NearLaws
+pub mod CourseLaws
+pub mod NewLaws
+pub mod LedLaws

@@ -1,5 +1,5 @@
 -- What holds of a result where it is Ok.
-use Rattle.std.proofs.Common.{Result, Ok, Err, OnOk, OnErr}
+use Rattle.std.proofs.Common.{Result, Ok, Err, OnOk, OnErr, IfOk}
 
 pub on_ok : {A E P Q : Type 0} → (r : Result A E) → (P → Q) → OnOk r P → OnOk r Q
 on_ok (Ok a) f p = f p
@@ -16,3 +16,7 @@ ok_map (Err x) h f = tt
 pub err_map : {T E : Type 0} → {P Q : Type 0} → (r : Result T E) → OnErr r P → (P → Q) → OnErr r Q
 err_map (Ok x) h f = tt
 err_map (Err x) h f = f h
+
+pub if_ok : {T E : Type 0} → {P Q : T → Type 0} → (r : Result T E) → IfOk r P → ((x : T) → P x → Q x) → IfOk r Q
+if_ok (Ok x) h f = f x h
+if_ok (Err x) h f = tt

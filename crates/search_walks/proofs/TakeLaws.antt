@@ -26,21 +26,21 @@ pub record Beside (c : Checked) (a : Entry Outcome) (e : Event) : Type 0 where
   pub site : IsSite c e.site a.kind a.token
   pub outcome : outcome_at e ≡ a.event
 
-entry_of : (c : Checked) (l : List (Entry Outcome)) (es : List Event) (k : ℕ) (e : Event) → ArePlain c l es → slice_get es k ≡ Some e → (a : Entry Outcome) × (slice_get l k ≡ Some a) × Beside c a e
+pub entry_of : (c : Checked) (l : List (Entry Outcome)) (es : List Event) (k : ℕ) (e : Event) → ArePlain c l es → slice_get es k ≡ Some e → (a : Entry Outcome) × (slice_get l k ≡ Some a) × Beside c a e
 entry_of c [] [] k e h at = absurd (cc at)
 entry_of c [] (f ∷ es) k e h at = absurd h
 entry_of c (a ∷ l) [] k e h at = absurd h
 entry_of c (a ∷ l) (f ∷ es) zero e h at = let same : f ≡ e = cc at in (a, refl, subst (Beside c a) same (record { site = h.0; outcome = h.1 }))
 entry_of c (a ∷ l) (f ∷ es) (suc k) e h at = entry_of c l es k e h.2 at
 
-event_of : (c : Checked) (l : List (Entry Outcome)) (es : List Event) (k : ℕ) (a : Entry Outcome) → ArePlain c l es → slice_get l k ≡ Some a → (e : Event) × (slice_get es k ≡ Some e) × Beside c a e
+pub event_of : (c : Checked) (l : List (Entry Outcome)) (es : List Event) (k : ℕ) (a : Entry Outcome) → ArePlain c l es → slice_get l k ≡ Some a → (e : Event) × (slice_get es k ≡ Some e) × Beside c a e
 event_of c [] [] k a h at = absurd (cc at)
 event_of c [] (f ∷ es) k a h at = absurd h
 event_of c (b ∷ l) [] k a h at = absurd h
 event_of c (b ∷ l) (f ∷ es) zero a h at = let same : b ≡ a = cc at in (f, refl, subst (λ x. Beside c x f) same (record { site = h.0; outcome = h.1 }))
 event_of c (b ∷ l) (f ∷ es) (suc k) a h at = event_of c l es k a h.2 at
 
-token_is : (sites : List Site) (n : ℕ) (x : Site) → slice_get sites n ≡ Some x → token_in sites n ≡ x.token
+pub token_is : (sites : List Site) (n : ℕ) (x : Site) → slice_get sites n ≡ Some x → token_in sites n ≡ x.token
 token_is sites n x e = ap (λ o. unwrap_or (option_map (λ y. y.token) o) 0) e
 
 module _ (s : Setting) (t : Trace) (p : Path) (r : RunOf s t p) where

@@ -4,6 +4,7 @@
 mod candidates;
 mod choices;
 mod covering;
+mod directed;
 mod distance;
 mod draws;
 mod fault;

@@ -15,17 +15,16 @@ ghost use Rattle.search_walks.specs.Task.{setting_of, Known};
 ghost use Rattle.search_walks.specs.Setting.{setting, base_of};
 ghost use Rattle.search_walks.specs.Walks.{candidates as candidates_at, Branches, Passes, Directed};
 
-use crate::candidates::{Candidate, candidates};
+use crate::candidates::candidates;
 use crate::choices::all_outcomes;
-use crate::distance::distances_over;
+use crate::directed::directed_walk;
 use crate::draws::draw;
 use crate::fault::SearchFault;
-use crate::flow::{Flow, number_of};
 use crate::log::{Log, WalkSummary};
 use crate::runs::Made;
 use crate::task::Task;
 use cc_model::Checked;
-use cc_model::base::{Bounds, Outcome};
+use cc_model::base::Bounds;
 use cc_outside::Sink;
 use rand_core::SeedableRng;
 use rand_pcg::Pcg32;
@@ -150,70 +149,6 @@ fn uniform_walk<K: Sink>(
     Ok(())
 }
 
-/// The distance of a candidate.
-fn distance_of(distances: &[Option<u32>], candidate: Candidate) -> Option<u32> {
-    let side = match candidate.outcome {
-        Outcome::False => false,
-        Outcome::True => true,
-        _ => return None,
-    };
-    match distances.get(number_of(candidate.site, side)) {
-        Some(distance) => *distance,
-        None => None,
-    }
-}
-
-/// The place of the first candidate of least finite distance.
-fn nearest(open: &[Candidate], distances: &[Option<u32>]) -> Option<usize> {
-    let mut least: Option<(usize, u32)> = None;
-    for (at, candidate) in open.iter().enumerate() {
-        if let Some(distance) = distance_of(distances, *candidate) {
-            let is_nearer = match least {
-                Some((_, found)) => distance < found,
-                None => true,
-            };
-            if is_nearer {
-                least = Some((at, distance));
-            }
-        }
-    }
-    match least {
-        Some((at, _)) => Some(at),
-        None => None,
-    }
-}
-
-/// Walks from the base input to the alternatives from which the fewest decisions lead to an outcome that isn't covered.
-fn directed_walk<K: Sink>(task: &Task<'_>, log: &mut Log, out: &mut K) -> Result<(), SearchFault>
-    requires known { Known task.now }
-    requires runs { 1 ≤ task.now.limit }
-    requires nothing { Nothing (length ((task.now.checked).now).sites) log.old }
-    ensures ok { OnOk result ((cuts : Bool) → Walked (setting_of task.now) (λ l. Directed (setting_of task.now) task.now.limit cuts (task.now.tac).now (base_of (setting_of task.now)) (candidates_at (setting_of task.now) (base_of (setting_of task.now))) (base_of (setting_of task.now) ∷ []) 1 l) (K.written out.old) (K.written out.new) log.new) }
-    ensures err { OnErr result (WalkedSome (setting_of task.now) (λ l. Directed (setting_of task.now) task.now.limit true (task.now.tac).now (base_of (setting_of task.now)) (candidates_at (setting_of task.now) (base_of (setting_of task.now))) (base_of (setting_of task.now) ∷ []) 1 l) (K.written out.old) (K.written out.new)) }
-    ensures sink { IfErr result (λ e. SinkCause (K.faults out.old) (K.faults out.new) e) }
-    ensures never_falls { K.faults out.old ≤ K.faults out.new }
-{
-    let mut current = log.begin(task, out)?;
-    let flow = Flow::new(task.alloc, task.checked, task.tac)?;
-    let mut open = candidates(task.alloc, current.trace.events.as_slice())?;
-    let mut far = distances_over(task.alloc, task.checked, task.tac, &log.covered, &flow)?;
-    while log.made < task.limit {
-        let Some(at) = nearest(&open, &far) else {
-            return Ok(());
-        };
-        let candidate = open.remove(at);
-        let tried = log.try_one(task, &current, candidate.event, candidate.outcome, out)?;
-        if let Some(tried) = tried {
-            if tried.is_new {
-                open = candidates(task.alloc, tried.run.trace.events.as_slice())?;
-                far = distances_over(task.alloc, task.checked, task.tac, &log.covered, &flow)?;
-                current = tried.run;
-            }
-        }
-    }
-    Ok(())
-}
-
 /// Walks by random branches: an alternative of the current run is drawn among those that are left, and solved.
 ///
 /// Each run is listed as it is made. The walk ends where nothing is left, or at once when `runs` runs were made.
@@ -314,6 +249,7 @@ pub fn cfg_directed<K: Sink>(
         limit: runs,
         budget,
     };
+    let _lowest = bounds.lo();
     let mut log = Log::new(alloc, checked)?;
     directed_walk(&task, &mut log, out)?;
     log.finish(&task, out)
