@@ -15,3 +15,8 @@ pub mod TakeLaws
 pub mod EndLaws
 pub mod FollowLaws
 pub mod LoggedLaws
+pub mod OfferLaws
+pub mod BranchLaws
+pub mod PassLaws
+pub mod TriedLaws
+pub mod WholeLaws

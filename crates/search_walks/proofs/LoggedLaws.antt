@@ -2,6 +2,7 @@
 use Rattle.std.proofs.Common.{◌≡◌, ℕ, Bool, true, List, [], ◌∷◌, ◌++◌, length, Option}
 use Rattle.cc_base.specs.declared.inputs.Input.{Input}
 use Rattle.cc_base.specs.declared.inputs.Test.{Test}
+use Rattle.cc_base.specs.Limits.{InRange}
 use Rattle.cc_base.specs.Paths.{Path}
 use Rattle.cc_model.specs.Listing.{Item, test_item, spent_item, WasRun}
 use Rattle.cc_model.specs.Report.{item_line}
@@ -29,7 +30,7 @@ module _ (s : Setting) where
   logged_spent = ?
 
   -- the base input's run is real
-  pub real_base : (t : Test) → WasRun t (base_item s ∷ []) → Real ((layer_of s).runs) t
+  pub real_base : InRange s.limits → (t : Test) → WasRun t (base_item s ∷ []) → Real ((layer_of s).runs) t
   real_base = ?
 
   -- ---- along a walk; From is the walk from its start, Here and There are what may still come before and after a step
@@ -66,7 +67,7 @@ module _ (s : Setting) where
   -- ---- a walk as a whole; W is the walk, which may be cut off or not
   module _ (W : Bool → List Item → Type 0) (old : Option (List ℕ)) where
     -- the base run was not listed whole
-    pub cut_at_first : (new : Option (List ℕ)) → WritesPart old new (item_line (base_item s)) → W true [] → WalkedSome s (W true) old new
+    pub cut_at_first : InRange s.limits → (new : Option (List ℕ)) → WritesPart old new (item_line (base_item s)) → W true [] → WalkedSome s (W true) old new
     cut_at_first = ?
 
     pub whole : (mid new : Option (List ℕ)) (l : Log) (w : WalkSummary) → ((cuts : Bool) → Walked s (W cuts) old mid l) → ((items : List Item) → Logged s items l → Finished s items mid new w) → WalkedWhole s (W false) old new w
@@ -79,5 +80,5 @@ module _ (s : Setting) where
     pub part_of_terms : (mid new : Option (List ℕ)) (l : Log) → ((cuts : Bool) → Walked s (W cuts) old mid l) → FinishedSome mid new → WalkedPart s (W true) old new
     part_of_terms = ?
 
-    pub part_of_none : (new : Option (List ℕ)) → new ≡ old → W true [] → WalkedPart s (W true) old new
+    pub part_of_none : InRange s.limits → (new : Option (List ℕ)) → new ≡ old → W true [] → WalkedPart s (W true) old new
     part_of_none = ?

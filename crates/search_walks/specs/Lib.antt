@@ -15,3 +15,5 @@ pub mod Covering
 pub mod Counted
 pub mod Steps
 pub mod Logged
+pub mod Branching
+pub mod Passing
