@@ -20,3 +20,4 @@ pub mod BranchLaws
 pub mod PassLaws
 pub mod TriedLaws
 pub mod WholeLaws
+pub mod DrawLaws

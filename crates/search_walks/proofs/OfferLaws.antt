@@ -22,7 +22,7 @@ in_either x [] m h = inr h
 in_either x (a ∷ l) m (inl e) = inl (inl e)
 in_either x (a ∷ l) m (inr h) = by (in_either x l m h)
   where
-    by : In x l ⊎ In x m → (x ≡ a) ⊎ In x l ⊎ In x m
+    by : In x l ⊎ In x m → ((x ≡ a) ⊎ In x l) ⊎ In x m
     by (inl k) = inl (inr k)
     by (inr k) = inr k
 
@@ -78,16 +78,16 @@ seen_length (a ∷ l) = ap suc (seen_length l)
 
 -- ---- the alternatives of events
 
-seen_event : (k : ℕ) → (i : SiteId) → (os : List Choice) → map plain_of (offers_at k i os) ≡ at_event k (map (λ c. c.outcome) os)
-seen_event k i [] = refl
-seen_event k i (o ∷ os) = ap (λ l. (k, o.outcome) ∷ l) (seen_event k i os)
+seen_event : (s : Setting) → (k : ℕ) → (i : SiteId) → (os : List Choice) → map plain_of (offers_at k i os) ≡ at_event s k (map (λ c. c.outcome) os)
+seen_event s k i [] = refl
+seen_event s k i (o ∷ os) = ap (λ (l : List Plain). (k, o.outcome) ∷ l) (seen_event s k i os)
 
 seen_offers : (s : Setting) → (u : Input) → (k : ℕ) → (es : List Event) → ((j : ℕ) (e : Event) → slice_get es j ≡ Some e → others_at e ≡ (layer_of s).others u (k + j)) →
     map plain_of (offers_from k es) ≡ candidates_from s u k (map outcome_at es)
 seen_offers s u k [] h = refl
 seen_offers s u k (e ∷ es) h =
     seen_both (offers_at k e.site e.others) (offers_from (suc k) es)
-    ∙ ap₂ (λ a b. a ++ b) (seen_event k e.site e.others ∙ ap (at_event k) (h zero e refl ∙ ap ((layer_of s).others u) none)) (seen_offers s u (suc k) es (λ j x at. h (suc j) x at ∙ ap ((layer_of s).others u) (later j)))
+    ∙ ap₂ (λ a b. a ++ b) (seen_event s k e.site e.others ∙ ap (at_event s k) (h zero e refl ∙ ap ((layer_of s).others u) none)) (seen_offers s u (suc k) es (λ j x at. h (suc j) x at ∙ ap ((layer_of s).others u) (later j)))
   where
     none : k + zero ≡ k
     none = omega arith
@@ -135,7 +135,7 @@ few_offers k (e ∷ es) h =
     let r = few_offers (suc k) es (λ j x at. h (suc j) x at) in
     omega (arith, a, b, d, r)
 
-length_map : (es : List Event) → length (map outcome_at es) ≡ length es
+pub length_map : (es : List Event) → length (map outcome_at es) ≡ length es
 length_map [] = refl
 length_map (e ∷ es) = ap suc (length_map es)
 
@@ -175,14 +175,18 @@ module _ (s : Setting) (r : Made) (run : RunOf s r.trace r.path) where
           }
 
 -- the alternatives of a run, as they were gathered
-pub gathered : (s : Setting) → (r : Made) → RunOf s r.trace r.path → (open : List Candidate) → (es : List Event) → open ≡ offers_from 0 es → es ≡ (r.trace).events → Offering s r open × (map plain_of open ≡ candidates s (r.trace).input)
-gathered s r run open es e f =
-    let same : open ≡ offers_from 0 (r.trace).events = e ∙ ap (offers_from 0) f in
+pub gathered : (s : Setting) → (r : Made) → RunOf s r.trace r.path → (untried : List Candidate) → (es : List Event) → untried ≡ offers_from 0 es → es ≡ (r.trace).events → Offering s r untried × (map plain_of untried ≡ candidates s (r.trace).input)
+gathered s r run untried es e f =
+    let same : untried ≡ offers_from 0 (r.trace).events = e ∙ ap (offers_from 0) f in
     (subst (Offering s r) (sym same) (offering s r run), ap (map plain_of) same ∙ seen_run s r run)
 
-pub fewer_offering : (s : Setting) → (r : Made) → (open rest : List Candidate) → (n : ℕ) → rest ≡ without n open → length rest + 1 ≡ length open → Offering s r open → Offering s r rest
-fewer_offering s r open rest n e f o = record {
+pub fewer_offering : (s : Setting) → (r : Made) → (untried rest : List Candidate) → (n : ℕ) → rest ≡ without n untried → length rest + 1 ≡ length untried → Offering s r untried → Offering s r rest
+fewer_offering s r untried rest n e f o = record {
   run = o.run;
-  each = λ c i. o.each c (in_without c n open (subst (In c) e i));
+  each = λ c i. o.each c (in_without c n untried (subst (In c) e i));
   few = let h = o.few in omega (arith, f, h);
 }
+
+pub empty_list : {A : Type 0} → (l : List A) → length l ≡ 0 → l ≡ []
+empty_list [] e = refl
+empty_list (x ∷ l) e = absurd (omega (arith, e))

@@ -31,7 +31,7 @@ module _ (s : Setting) (limit : ℕ) (start : Lcg) (before : Option (List ℕ)) 
 
   -- ---- a step
   module _ (passes : ℕ) (u : Input) (k : ℕ) (g : Lcg) (mid : Option (List ℕ)) (l : Log) (a : PassesTo s limit start before passes u k g l mid) where
-    Here : Bool → List Item → Type 0
+    abbrev Here : Bool → List Item → Type 0
     Here = FromEvent s limit passes u k g l.made
 
     -- cut off before it
@@ -74,7 +74,7 @@ module _ (s : Setting) (limit : ℕ) (start : Lcg) (before : Option (List ℕ)) 
       item_cut i x gives (left y) = pass_left_one u k passes g l.made [] own o os i room are at other gives y (pass_cut_off i 0 passes (after_draw g) (suc l.made) refl)
 
       goes_run : (new : Option (List ℕ)) (m : Log) (t : Tried) (n : ℕ) → TriedOne s u (k, o) mid new l m (Some t) → (t.kept ≡ true → n ≡ suc k) → (t.kept ≡ false → n ≡ 0) → PassesTo s limit start before passes ((t.run).trace).input n h m new
-      goes_run new m t n (was_run i same gives f) yes no = by t.kept refl
+      goes_run new m t n (was_run i same gives f) stays leaves = by t.kept refl
         where
           moved : (cuts : Bool) (items : List Item) (j : ℕ) → n ≡ j → FromEvent s limit passes ((t.run).trace).input n h m.made cuts items → Passes s limit cuts i j passes (after_draw g) (suc l.made) items
           moved cuts items j e w =
@@ -87,8 +87,8 @@ module _ (s : Setting) (limit : ℕ) (start : Lcg) (before : Option (List ℕ)) 
           along back = along_run s (FromStart s limit start) Here (FromEvent s limit passes ((t.run).trace).input n h m.made) before i (prediction s u (k, o)) mid new l m t a f back
 
           by : (b : Bool) → t.kept ≡ b → PassesTo s limit start before passes ((t.run).trace).input n h m new
-          by true e = along (λ cuts items w. item_kept cuts items i f.item gives (f.kept.0 e) f.is_item (moved cuts items (suc k) (yes e) w))
-          by false e = along (λ cuts items w. item_left cuts items i f.item gives (λ keeps. differs (sym e ∙ f.kept.1 keeps)) f.is_item (moved cuts items 0 (no e) w))
+          by true e = along (λ cuts items w. item_kept cuts items i f.item gives (f.kept.0 e) f.is_item (moved cuts items (suc k) (stays e) w))
+          by false e = along (λ cuts items w. item_left cuts items i f.item gives (λ keeps. differs (sym e ∙ f.kept.1 keeps)) f.is_item (moved cuts items 0 (leaves e) w))
             where
               differs : false ≡ true → ⊥
               differs d = cc d
@@ -104,7 +104,7 @@ module _ (s : Setting) (limit : ℕ) (start : Lcg) (before : Option (List ℕ)) 
       passes_none new m (other_drawn own same os are at other i word) t = goes_none room h own o os are at other word new m t
 
       pub passes_run : (new : Option (List ℕ)) (m : Log) (t : Tried) (n : ℕ) → DrawnAt s u k g h (Some o) → TriedOne s u (k, o) mid new l m (Some t) → (t.kept ≡ true → n ≡ suc k) → (t.kept ≡ false → n ≡ 0) → PassesTo s limit start before passes ((t.run).trace).input n h m new
-      passes_run new m t n (other_drawn own same os are at other i word) tried yes no = goes_run room h own o os are at other word new m t n tried yes no
+      passes_run new m t n (other_drawn own same os are at other i word) tried stays leaves = goes_run room h own o os are at other word new m t n tried stays leaves
 
       pub passes_some : (new : Option (List ℕ)) → DrawnAt s u k g h (Some o) → TriedSome s u (k, o) mid new → WalkedSome s (FromStart s limit start true) before new
       passes_some new (other_drawn own same os are at other i word) t = goes_some room h own o os are at other word new t

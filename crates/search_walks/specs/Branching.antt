@@ -21,22 +21,22 @@ pub record IsOffered (s : Setting) (r : Made) (c : Candidate) : Type 0 where
   pub offered : In c.outcome ((layer_of s).others (r.trace).input c.event)
 
 -- a run, and alternatives of it
-pub record Offering (s : Setting) (r : Made) (open : List Candidate) : Type 0 where
+pub record Offering (s : Setting) (r : Made) (untried : List Candidate) : Type 0 where
   pub run : RunOf s r.trace r.path
-  pub each : (c : Candidate) → In c open → IsOffered s r c
-  pub few : length open ≤ 28672
+  pub each : (c : Candidate) → In c untried → IsOffered s r c
+  pub few : length untried ≤ 28672
 
 -- the walk from its start, and from a run on
 abbrev pub FromBase : Setting → ℕ → Lcg → Bool → List Item → Type 0
 FromBase s limit g = λ cuts l. Branches s limit cuts (base_of s) (candidates s (base_of s)) g 1 l
 
 abbrev pub FromRun : Setting → ℕ → Input → List Candidate → Lcg → ℕ → Bool → List Item → Type 0
-FromRun s limit u open g made = λ cuts l. Branches s limit cuts u (map plain_of open) g made l
+FromRun s limit u untried g made = λ cuts l. Branches s limit cuts u (map plain_of untried) g made l
 
 -- the walk has come to a run, with the alternatives that are left
 abbrev pub CameTo : Setting → ℕ → Lcg → Option (List ℕ) → Made → List Candidate → Lcg → Log → Option (List ℕ) → Type 0
-CameTo s limit start before r open g log now = Along s (FromBase s limit start) (FromRun s limit (r.trace).input open g log.made) before now log
+CameTo s limit start before r untried g log now = Along s (FromBase s limit start) (FromRun s limit (r.trace).input untried g log.made) before now log
 
 -- what falls with each draw
 abbrev pub left_to_draw : ℕ → ℕ → ℕ → ℕ
-left_to_draw limit made open = 28673 * (limit - made) + open
+left_to_draw limit made untried = 28673 * (limit - made) + untried

@@ -37,6 +37,7 @@ impl Branching {
     ) -> Result<(), SearchFault>
         requires known { Known task.now }
         requires room { log.old.made < task.now.limit }
+        requires fits { log.old.made < 4294967295 }
         requires some { 1 ≤ length self.old.open.items }
         requires offering { Offering (setting_of task.now) self.old.current self.old.open.items }
         requires size { length log.old.covered.items ≡ 2 * length ((task.now.checked).now).sites }
@@ -80,7 +81,10 @@ pub(crate) fn branch_walk<K: Sink>(
     let current = log.begin(task, out)?;
     let open = candidates(task.alloc, current.trace.events.as_slice())?;
     let mut walk = Branching { current, open };
-    'draws: while log.made < task.limit && !walk.open.is_empty() {
+    'draws: while log.made < task.limit {
+        if walk.open.is_empty() {
+            return Ok(());
+        }
         walk.step(task, words, log, out)?;
     }
     Ok(())

@@ -83,6 +83,7 @@ impl Standing {
     ) -> Result<(), SearchFault>
         requires known { Known task.now }
         requires room { log.old.made < task.now.limit }
+        requires fits { log.old.made < 4294967295 }
         requires stands { StandsAt (setting_of task.now) (current_of self.old base.now) self.old.event }
         requires there { self.old.event < length (current_of self.old base.now).path }
         requires size { length log.old.covered.items ≡ 2 * length ((task.now.checked).now).sites }
