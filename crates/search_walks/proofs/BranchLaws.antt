@@ -128,3 +128,11 @@ walked_from s limit g h e before now w = subst (λ x. WalkedSome s (FromBase s l
 
 pub whole_from : (s : Setting) (limit : ℕ) (g h : Lcg) → g ≡ h → (cuts : Bool) → (before now : Option (List ℕ)) → (log : Log) → Walked s (FromBase s limit g cuts) before now log → Walked s (FromBase s limit h cuts) before now log
 whole_from s limit g h e cuts before now log w = subst (λ x. Walked s (FromBase s limit x cuts) before now log) e w
+
+-- a step that ends the walk early, whatever its start
+module _ (s : Setting) (limit : ℕ) (r : Made) (untried rest : List Candidate) (c : Candidate) (g h : Lcg) (mid new : Option (List ℕ)) (l : Log) (room : l.made < limit) (d : Drew untried rest c g h) where
+  pub step_some : TriedSome s (r.trace).input (plain_of c) mid new → (start : Lcg) (before : Option (List ℕ)) → CameTo s limit start before r untried g l mid → WalkedSome s (FromBase s limit start true) before new
+  step_some t start before a = came_some s limit start before r untried rest c g h mid l room d a new t
+
+  pub step_cut : (m : Log) (t : Tried) → TriedOne s (r.trace).input (plain_of c) mid new l m (Some t) → (start : Lcg) (before : Option (List ℕ)) → CameTo s limit start before r untried g l mid → WalkedSome s (FromBase s limit start true) before new
+  step_cut m t tried start before a = came_cut s limit start before r untried rest c g h mid l room d a new m t tried

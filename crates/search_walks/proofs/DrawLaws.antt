@@ -18,18 +18,15 @@ pub some_in : {A : Type 0} → (x : A) → (l : List A) → In x l → 1 ≤ len
 some_in x [] h = absurd h
 some_in x (a ∷ l) h = omega arith
 
--- the event with a number
-pub event_at : (s : Setting) → (r : Made) → RunOf s r.trace r.path → (k : ℕ) → (es : List Event) → (e : Event) → es ≡ (r.trace).events → k < length r.path → e ≡ get_or es k e → slice_get (r.trace).events k ≡ Some e
-event_at s r run k es e f below is =
-    let a = ap length run.outcomes ∙ length_map (r.trace).events in
-    let b : k < length (r.trace).events = omega (arith, below, a) in
-    got_at e k (r.trace).events b (is ∙ ap (λ l. get_or l k e) f)
+pub got_or : {A : Type 0} → (d : A) → (n : ℕ) → (l : List A) → n < length l → slice_get l n ≡ Some (get_or l n d)
+got_or d n [] h = absurd (omega (arith, h))
+got_or d zero (a ∷ l) h = refl
+got_or d (suc n) (a ∷ l) h = got_or d n l (omega (arith, h))
 
-pub events_below : (s : Setting) → (r : Made) → RunOf s r.trace r.path → (k : ℕ) → (es : List Event) → es ≡ (r.trace).events → k < length r.path → k < length es
-events_below s r run k es f below =
+pub events_below : (s : Setting) → (r : Made) → RunOf s r.trace r.path → (k : ℕ) → k < length r.path → k < length (r.trace).events
+events_below s r run k below =
     let a = ap length run.outcomes ∙ length_map (r.trace).events in
-    let b = ap length f in
-    omega (arith, below, a, b)
+    omega (arith, below, a)
 
 seen_outcome : (k : ℕ) → (es : List Event) → (e : Event) → slice_get es k ≡ Some e → slice_get (map outcome_at es) k ≡ Some (outcome_at e)
 seen_outcome k [] e h = absurd (cc h)
@@ -51,9 +48,9 @@ module _ (s : Setting) (r : Made) (run : RunOf s r.trace r.path) (k : ℕ) (e : 
   pub drawn_none : (g h : Lcg) → e.others ≡ [] → h ≡ g → DrawnAt s (r.trace).input k g h None
   drawn_none g h f w = no_draw (sym (run.others k e at) ∙ ap (λ (cs : List Choice). map (λ c. c.outcome) cs) f) w
 
-  module _ (g h : Lcg) (os : List Outcome) (ascend : Ascend os) (all : (o : Outcome) → In o os ↔ ((o ≡ outcome_at e) ⊎ In o (others_at e))) (n m : ℕ) (o : Outcome) (drawn : n ≡ draw m g) (many : m ≡ length os) (below : n < m) (is : o ≡ get_or os n o) (word : h ≡ after_draw g) where
+  module _ (g h : Lcg) (os : List Outcome) (ascend : Ascend os) (all : (o : Outcome) → In o os ↔ ((o ≡ outcome_at e) ⊎ In o (others_at e))) (n m : ℕ) (o : Outcome) (drawn : n ≡ draw m g) (many : m ≡ length os) (is : slice_get os n ≡ Some o) (word : h ≡ after_draw g) where
     got : slice_get os (draw (length os) g) ≡ Some o
-    got = ap (λ x. slice_get os (draw x g)) (sym many) ∙ (ap (slice_get os) (sym drawn) ∙ got_at o n os (omega (arith, many, below)) is)
+    got = ap (λ x. slice_get os (draw x g)) (sym many) ∙ (ap (slice_get os) (sym drawn) ∙ is)
 
     pub drawn_own : (e.others ≡ [] → ⊥) → o ≡ outcome_at e → DrawnAt s (r.trace).input k g h None
     drawn_own some f = own_drawn (outcome_at e) os (λ x. some (no_map e.others (run.others k e at ∙ x))) (outcomes_are os ascend all) (got ∙ ap Some f) word
@@ -68,3 +65,9 @@ module _ (s : Setting) (r : Made) (run : RunOf s r.trace r.path) (k : ℕ) (e : 
 -- what was drawn is an alternative
 pub drawn_in : (s : Setting) → (r : Made) → (k : ℕ) → (g h : Lcg) → (o : Outcome) → DrawnAt s (r.trace).input k g h (Some o) → In o ((layer_of s).others (r.trace).input k)
 drawn_in s r k g h o (other_drawn own same os are at other i word) = i
+
+pub path_short : (s : Setting) → (r : Made) → RunOf s r.trace r.path → length r.path ≤ 1024
+path_short s r run =
+    let a = ap length run.outcomes ∙ length_map (r.trace).events in
+    let b = run.short in
+    omega (arith, a, b)

@@ -1,8 +1,8 @@
 -- A walk by passes, step by step.
-use Rattle.std.proofs.Common.{◌≡◌, ℕ, suc, ◌+◌, ◌-◌, ◌<◌, ◌≤◌, ◌⊎◌, inl, inr, Bool, true, false, List, [], ◌∷◌, Option, Some, None, length, slice_get, refl, sym, ap, ◌∙◌, subst, arith}
+use Rattle.std.proofs.Common.{◌≡◌, ℕ, zero, suc, ◌+◌, ◌-◌, ◌<◌, ◌≤◌, ◌⊎◌, inl, inr, Bool, true, false, List, [], ◌∷◌, Option, Some, None, length, slice_get, take, refl, sym, ap, ◌∙◌, subst, arith, length-append}
 use Rattle.cc_base.specs.declared.inputs.Input.{Input}
 use Rattle.cc_base.specs.declared.outcomes.Outcome.{Outcome}
-use Rattle.cc_base.specs.Paths.{In, Ascend}
+use Rattle.cc_base.specs.Paths.{In, Ascend, Path}
 use Rattle.cc_model.specs.Listing.{Item, spent_item, test_item, stray_item}
 use Rattle.rand_pcg.specs.Lcg.{Lcg}
 use Rattle.sym_run.specs.declared.trace.Event.{Event}
@@ -14,10 +14,11 @@ use Rattle.search_walks.specs.Counted.{Nothing}
 use Rattle.search_walks.specs.Draws.{draw, after_draw}
 use Rattle.search_walks.specs.Logged.{Along, Walked, WalkedSome}
 use Rattle.search_walks.specs.Made.{RunOf}
-use Rattle.search_walks.specs.Passing.{DrawnAt, no_draw, own_drawn, other_drawn, FromStart, FromEvent, PassesTo, Passed}
+use Rattle.search_walks.specs.Passing.{StandsAt, left_to_pass, DrawnAt, no_draw, own_drawn, other_drawn, FromStart, FromEvent, PassesTo, Passed}
 use Rattle.search_walks.specs.Setting.{Setting, layer_of, base_of}
 use Rattle.search_walks.specs.Steps.{Started, TriedOne, TriedSome, no_input, past_budget, was_run}
 use Rattle.search_walks.specs.Walks.{AreOutcomes, Keeps, Passes, pass_full, last_pass, pass_cut_off, next_pass, pass_no_draw, pass_own_one, pass_never_one, pass_spent_one, pass_kept_one, pass_left_one, IsItemOf, kept, left, IsSpent, Gives, prediction, path_of, test_of}
+use Rattle.search_walks.proofs.PathLaws.{length_begins}
 use Rattle.search_walks.proofs.LoggedLaws.{along_first, along_none, along_spent, along_run, along_end, along_cut, along_some}
 
 module _ (s : Setting) (limit : ℕ) (start : Lcg) (before : Option (List ℕ)) where
@@ -140,3 +141,111 @@ passed_from s limit g h e before now w = subst (λ x. WalkedSome s (FromStart s 
 
 pub passes_from : (s : Setting) (limit : ℕ) (g h : Lcg) → g ≡ h → (cuts : Bool) → (before now : Option (List ℕ)) → (log : Log) → Walked s (FromStart s limit g cuts) before now log → Walked s (FromStart s limit h cuts) before now log
 passes_from s limit g h e cuts before now log w = subst (λ x. Walked s (FromStart s limit x cuts) before now log) e w
+
+-- ---- a step of a pass through a run; the run is the current one
+module _ (s : Setting) (limit : ℕ) (cur r : Made) (same : r ≡ cur) (k : ℕ) (stands : StandsAt s cur k) (below : k < length cur.path) where
+  pub run_there : RunOf s r.trace r.path
+  run_there = subst (λ (x : Made). RunOf s x.trace x.path) (sym same) stands.run
+
+  pub below_there : k < length r.path
+  below_there = subst (λ (x : Made). k < length x.path) (sym same) below
+
+  in_path : k < length (path_of s (cur.trace).input)
+  in_path = subst (λ p. k < length p) (stands.run).path below
+
+  module _ (g h : Lcg) (l : Log) (room : l.made < limit) where
+    pub event_on : (n : ℕ) → n ≡ k + 1 → DrawnAt s (r.trace).input k g h None → (mid : Option (List ℕ)) (start : Lcg) (before : Option (List ℕ)) (passes : ℕ) → PassesTo s limit start before passes (cur.trace).input k g l mid → PassesTo s limit start before passes (cur.trace).input n h l mid
+    event_on n e d mid start before passes a =
+        subst (λ x. PassesTo s limit start before passes (cur.trace).input x h l mid) (more n e)
+        (passes_on s limit start before passes (cur.trace).input k g mid l a room h (subst (λ (x : Made). DrawnAt s (x.trace).input k g h None) same d) in_path)
+      where
+        more : (n : ℕ) → n ≡ k + 1 → suc k ≡ n
+        more n e = omega (arith, e)
+
+    module _ (o : Outcome) (d : DrawnAt s (r.trace).input k g h (Some o)) where
+      drawn_there : DrawnAt s (cur.trace).input k g h (Some o)
+      drawn_there = subst (λ (x : Made). DrawnAt s (x.trace).input k g h (Some o)) same d
+
+      pub event_none : (n : ℕ) → n ≡ k + 1 → (mid new : Option (List ℕ)) (m : Log) → TriedOne s (r.trace).input (k, o) mid new l m None → (start : Lcg) (before : Option (List ℕ)) (passes : ℕ) → PassesTo s limit start before passes (cur.trace).input k g l mid → PassesTo s limit start before passes (cur.trace).input n h m new
+      event_none n e mid new m t start before passes a =
+          subst (λ x. PassesTo s limit start before passes (cur.trace).input x h m new) (more n e)
+          (passes_none s limit start before passes (cur.trace).input k g mid l a room h o new m drawn_there (subst (λ (x : Made). TriedOne s (x.trace).input (k, o) mid new l m None) same t))
+        where
+          more : (n : ℕ) → n ≡ k + 1 → suc k ≡ n
+          more n e = omega (arith, e)
+
+      pub event_run : (n : ℕ) (mid new : Option (List ℕ)) (m : Log) (t : Tried) → TriedOne s (r.trace).input (k, o) mid new l m (Some t) → (t.kept ≡ true → n ≡ k + 1) → (t.kept ≡ false → n ≡ 0) → (start : Lcg) (before : Option (List ℕ)) (passes : ℕ) →
+          PassesTo s limit start before passes (cur.trace).input k g l mid → PassesTo s limit start before passes ((t.run).trace).input n h m new
+      event_run n mid new m t tried stays leaves start before passes a =
+          passes_run s limit start before passes (cur.trace).input k g mid l a room h o new m t n drawn_there (subst (λ (x : Made). TriedOne s (x.trace).input (k, o) mid new l m (Some t)) same tried) (λ e. more n (stays e)) leaves
+        where
+          more : (n : ℕ) → n ≡ k + 1 → n ≡ suc k
+          more n e = omega (arith, e)
+
+      pub event_some : (mid new : Option (List ℕ)) → TriedSome s (r.trace).input (k, o) mid new → (start : Lcg) (before : Option (List ℕ)) (passes : ℕ) → PassesTo s limit start before passes (cur.trace).input k g l mid → WalkedSome s (FromStart s limit start true) before new
+      event_some mid new t start before passes a =
+          passes_some s limit start before passes (cur.trace).input k g mid l a room h o new drawn_there (subst (λ (x : Made). TriedSome s (x.trace).input (k, o) mid new) same t)
+
+  pub stands_next : (n : ℕ) → n ≡ k + 1 → StandsAt s cur n
+  stands_next n e = record { run = stands.run; within = omega (arith, e, below) }
+
+-- the run that an alternative gave: where the pass stands in it
+pub stands_run : (s : Setting) (u : Input) (k n : ℕ) (o : Outcome) (p : Path) (old new : Option (List ℕ)) (l m : Log) (t : Tried) → p ≡ path_of s u → k < length p → TriedOne s u (k, o) old new l m (Some t) → (t.kept ≡ true → n ≡ k + 1) → (t.kept ≡ false → n ≡ 0) → StandsAt s t.run n
+stands_run s u k n o p old new l m t path below (was_run i same gives f) stays leaves = record { run = f.run; within = by t.kept refl }
+  where
+    -- it goes on behind the alternative
+    room : Keeps s i (prediction s u (k, o)) → k + 1 ≤ length (t.run).path
+    room h =
+        let a = length_begins (path_of s i) (prediction s u (k, o)) h in
+        let b = length-append (take k (path_of s u)) (o ∷ []) in
+        let d = ap length path in
+        let e : length (take k (path_of s u)) ≡ k = taken k (path_of s u) (omega (arith, below, d)) in
+        let w = ap length ((f.run).path ∙ ap (path_of s) f.input) in
+        omega (arith, a, b, e, w)
+      where
+        taken : (k : ℕ) (l : Path) → k < length l → length (take k l) ≡ k
+        taken zero l h = refl
+        taken (suc k) [] h = absurd (omega (arith, h))
+        taken (suc k) (x ∷ l) h = ap suc (taken k l (omega (arith, h)))
+
+    by : (b : Bool) → t.kept ≡ b → n ≤ length (t.run).path
+    by true e = let a = stays e in let b = room (f.kept.0 e) in omega (arith, a, b)
+    by false e = let a = leaves e in omega (arith, a)
+
+-- what is left to pass falls
+pub falls_on : (limit m q k n events : ℕ) → q ≡ m → n ≡ k + 1 → k < events → left_to_pass limit q events n < left_to_pass limit m events k
+falls_on limit m q k n events e f below = subst (λ x. left_to_pass limit x events n < left_to_pass limit m events k) (sym e) (omega (arith, f, below))
+
+pub falls_back : (limit m q k n events others : ℕ) → q ≡ suc m → m < limit → others ≤ 1024 → left_to_pass limit q others n < left_to_pass limit m events k
+falls_back limit m q k n events others e h few =
+    let f : limit - m ≡ suc (limit - q) = omega (arith, e, h) in
+    omega (arith, f, few)
+
+-- a pass that is over
+pub pass_over : (s : Setting) (limit : ℕ) (start : Lcg) (before : Option (List ℕ)) (passes : ℕ) (cur : Made) (k : ℕ) (g : Lcg) (log : Log) (now : Option (List ℕ)) → StandsAt s cur k → PassesTo s limit start before passes (cur.trace).input k g log now → (limit ≤ log.made) ⊎ (k ≡ length cur.path) → Passed s limit start before passes g log now
+pass_over s limit start before passes cur k g log now stands a e = record { input = (cur.trace).input; event = k; came = a; over = by e }
+  where
+    by : (limit ≤ log.made) ⊎ (k ≡ length cur.path) → (limit ≤ log.made) ⊎ (k ≡ length (path_of s (cur.trace).input))
+    by (inl f) = inl f
+    by (inr f) = inr (f ∙ ap length (stands.run).path)
+
+pub last_of : (left made limit : ℕ) → (left ≡ 0) ⊎ (made ≡ limit) → (left ≡ 0) ⊎ (limit ≤ made)
+last_of left made limit (inl e) = inl e
+last_of left made limit (inr e) = inr (omega (arith, e))
+
+-- the walk is cut off behind the base run
+pub base_cut : (s : Setting) (limit : ℕ) (start : Lcg) (before new : Option (List ℕ)) (l m : Log) (r : Made) → Nothing (length s.checked.sites) l → Started s before new l m r → WalkedSome s (FromStart s limit start true) before new
+base_cut s limit start before new l m r n st =
+    along_cut s (FromStart s limit start) (FromStart s limit start) before new new m (along_first s (FromStart s limit start) before new l m r n st) refl
+    (pass_cut_off (base_of s) 0 (limit - 1) start 1 refl)
+
+-- cut off before an event, whatever the walk's start
+pub event_cut : (s : Setting) (limit : ℕ) (u : Input) (k : ℕ) (g : Lcg) (mid : Option (List ℕ)) (l : Log) (start : Lcg) (before : Option (List ℕ)) (passes : ℕ) → PassesTo s limit start before passes u k g l mid → WalkedSome s (FromStart s limit start true) before mid
+event_cut s limit u k g mid l start before passes a = passes_cut s limit start before passes u k g mid l a
+
+-- what a pass was cut off in
+pub pass_cut : (s : Setting) (limit : ℕ) (u v : Input) (k n : ℕ) (g h : Lcg) (l m : Log) (mid now new : Option (List ℕ)) →
+    ((start : Lcg) (before : Option (List ℕ)) (passes : ℕ) → PassesTo s limit start before passes u k g l mid → PassesTo s limit start before passes v n h m now) →
+    ((start : Lcg) (before : Option (List ℕ)) (passes : ℕ) → PassesTo s limit start before passes v n h m now → WalkedSome s (FromStart s limit start true) before new) →
+    (start : Lcg) (before : Option (List ℕ)) (passes : ℕ) → PassesTo s limit start before passes u k g l mid → WalkedSome s (FromStart s limit start true) before new
+pass_cut s limit u v k n g h l m mid now new came err start before passes a = err start before passes (came start before passes a)

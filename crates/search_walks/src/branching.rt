@@ -1,6 +1,6 @@
 //! The walk by random branches.
 
-ghost use Rattle.std.specs.Prelude.{◌≡◌, ◌<◌, ◌≤◌, ◌*◌, ℕ, Bool, true, List, Option, length, OnOk, OnErr, IfErr};
+ghost use Rattle.std.specs.Prelude.{◌≡◌, IsTrue, false, ◌<◌, ◌≤◌, ◌*◌, ℕ, Bool, true, List, Option, length, OnOk, OnErr, IfErr};
 ghost use Rattle.rand_pcg.specs.Lcg.{Lcg};
 ghost use Rattle.search_walks.specs.Branching.{Offering, FromBase, CameTo, left_to_draw};
 ghost use Rattle.search_walks.specs.Counted.{Nothing};
@@ -18,6 +18,15 @@ use crate::runs::Made;
 use crate::task::Task;
 use cc_outside::Sink;
 use rand_pcg::Pcg32;
+
+/// Whether one more run may be made.
+pub(crate) fn may_run(made: u32, limit: u32) -> bool
+    ensures below { IsTrue result → made < limit }
+    ensures fits { IsTrue result → made < 4294967295 }
+    ensures full { result ≡ false → limit ≤ made }
+{
+    made < limit
+}
 
 /// Where a walk by random branches stands: the current run, and its alternatives that are left.
 #[derive(Drop)]
@@ -81,7 +90,7 @@ pub(crate) fn branch_walk<K: Sink>(
     let current = log.begin(task, out)?;
     let open = candidates(task.alloc, current.trace.events.as_slice())?;
     let mut walk = Branching { current, open };
-    'draws: while log.made < task.limit {
+    'draws: while may_run(log.made, task.limit) {
         if walk.open.is_empty() {
             return Ok(());
         }

@@ -1,6 +1,6 @@
 //! The walk by passes over runs.
 
-ghost use Rattle.std.specs.Prelude.{◌≡◌, ◌<◌, ◌≤◌, ◌+◌, ◌-◌, ◌*◌, ℕ, Bool, true, false, List, Option, length, IfOk, OnOk, OnErr, IfErr};
+ghost use Rattle.std.specs.Prelude.{◌≡◌, ◌⊎◌, ◌↔◌, IsTrue, ◌<◌, ◌≤◌, ◌+◌, ◌-◌, ◌*◌, ℕ, Bool, true, false, List, Option, length, slice_get, Some, IfOk, OnOk, OnErr, IfErr};
 ghost use Rattle.rand_pcg.specs.Lcg.{Lcg};
 ghost use Rattle.search_walks.specs.Counted.{Nothing};
 ghost use Rattle.search_walks.specs.Logged.{Walked, WalkedSome};
@@ -11,6 +11,7 @@ ghost use Rattle.search_walks.specs.Task.{setting_of, Known};
 ghost use Rattle.search_walks.specs.Setting.{base_of};
 ghost use Rattle.search_walks.specs.Walks.{Passes};
 
+use crate::branching::may_run;
 use crate::choices::all_outcomes;
 use crate::draws::draw;
 use crate::fault::SearchFault;
@@ -21,24 +22,43 @@ use crate::task::Task;
 use cc_model::base::{NoMemory, Outcome};
 use cc_outside::Sink;
 use rand_pcg::Pcg32;
+use sym_run::Event;
+
+/// An event of a run.
+fn event_of(run: &Made, at: u32) -> &Event
+    requires { at < length ((run.now).trace).events }
+    ensures { slice_get ((run.now).trace).events at ≡ Some result.now }
+{
+    let events = run.trace.events.as_slice();
+    &events[at as usize]
+}
+
+/// One of some outcomes.
+fn outcome_of(outcomes: &[Outcome], at: usize) -> Outcome
+    requires { at < length outcomes.now }
+    ensures { slice_get outcomes.now at ≡ Some result }
+{
+    outcomes[at]
+}
 
 /// Draws one of all outcomes of an event, where it has alternatives. None where it is the event's own.
 fn draw_at(
     task: &Task<'_>,
     run: &Made,
-    event: u32,
+    at: u32,
     words: &mut Pcg32,
 ) -> Result<Option<Outcome>, NoMemory>
     requires run { RunOf (setting_of task.now) (run.now).trace (run.now).path }
-    requires there { event < length (run.now).path }
-    ensures { IfOk result (DrawnAt (setting_of task.now) ((run.now).trace).input event words.old words.new) }
+    requires there { at < length (run.now).path }
+    ensures { IfOk result (DrawnAt (setting_of task.now) ((run.now).trace).input at words.old words.new) }
 {
-    let event = &run.trace.events.as_slice()[event as usize];
+    let event = event_of(run, at);
     if event.others.is_empty() {
         return Ok(None);
     }
     let all = all_outcomes(task.alloc, event)?;
-    let outcome = all.as_slice()[draw(words, all.len() as u32) as usize];
+    let drawn = draw(words, all.len() as u32);
+    let outcome = outcome_of(all.as_slice(), drawn as usize);
     if same(outcome, event.taken.outcome) {
         return Ok(None);
     }
@@ -72,6 +92,14 @@ impl Standing {
         }
     }
 
+    /// Whether the run is over.
+    fn is_over(&self, base: &Made) -> bool
+        ensures { IsTrue result ↔ (self.now.event ≡ length (current_of self.now base.now).path) }
+    {
+        let run = self.current(base);
+        self.event as usize == run.path.len()
+    }
+
     /// Goes on from an event: one of all its outcomes is drawn, where it has alternatives.
     fn step<K: Sink>(
         &mut self,
@@ -86,6 +114,7 @@ impl Standing {
         requires fits { log.old.made < 4294967295 }
         requires stands { StandsAt (setting_of task.now) (current_of self.old base.now) self.old.event }
         requires there { self.old.event < length (current_of self.old base.now).path }
+        requires short { length (current_of self.old base.now).path ≤ 1024 }
         requires size { length log.old.covered.items ≡ 2 * length ((task.now.checked).now).sites }
         ensures came { OnOk result ((start : Lcg) (before : Option (List ℕ)) (passes : ℕ) → PassesTo (setting_of task.now) task.now.limit start before passes ((current_of self.old base.now).trace).input self.old.event words.old log.old (K.written out.old) → PassesTo (setting_of task.now) task.now.limit start before passes ((current_of self.new base.now).trace).input self.new.event words.new log.new (K.written out.new)) }
         ensures stands { OnOk result (StandsAt (setting_of task.now) (current_of self.new base.now) self.new.event) }
@@ -97,11 +126,13 @@ impl Standing {
         ensures never_falls { K.faults out.old ≤ K.faults out.new }
     {
         let run = self.current(base);
-        let Some(outcome) = draw_at(task, run, self.event, words)? else {
+        let drawn = draw_at(task, run, self.event, words)?;
+        let Some(outcome) = drawn else {
             self.event += 1;
             return Ok(());
         };
-        let Some(tried) = log.try_one(task, run, self.event, outcome, out)? else {
+        let tried = log.try_one(task, run, self.event, outcome, out)?;
+        let Some(tried) = tried else {
             self.event += 1;
             return Ok(());
         };
@@ -133,13 +164,24 @@ fn pass<K: Sink>(
         run: None,
         event: 0,
     };
-    'events: while log.made < task.limit {
-        if standing.event as usize == standing.current(base).path.len() {
+    'events: while may_run(log.made, task.limit) {
+        if standing.is_over(base) {
             return Ok(());
         }
         standing.step(task, base, words, log, out)?;
     }
     Ok(())
+}
+
+/// Whether no pass comes behind this one.
+fn is_last(left: u32, made: u32, limit: u32) -> bool
+    ensures last { IsTrue result → (left ≡ 0) ⊎ (made ≡ limit) }
+    ensures more { result ≡ false → (left ≡ 0 → ⊥) × (made ≡ limit → ⊥) }
+{
+    if left == 0 {
+        return true;
+    }
+    made == limit
 }
 
 /// Walks through passes from the base run.
@@ -162,7 +204,7 @@ pub(crate) fn uniform_walk<K: Sink>(
     let mut left = task.limit - 1;
     'passes: loop {
         pass(task, &base, words, log, out)?;
-        if left == 0 || log.made == task.limit {
+        if is_last(left, log.made, task.limit) {
             return Ok(());
         }
         left -= 1;

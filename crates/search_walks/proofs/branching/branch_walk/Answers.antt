@@ -22,7 +22,7 @@ pub returns-in_err-current-clause-err : goal.returns-in_err-current-clause-err
 returns-in_err-current-clause-err g c =
     let s = setting_of (c.args.task).now in
     let limit = ((c.args.task).now).limit in
-    on_err _ (cut_at_first s (FromBase s limit (c.args.words).now) _ c.lo-_lowest.ensures.in_range _ c.in_err-current.ensures.err (branch_cut_off (base_of s) (candidates s (base_of s)) (c.args.words).now 1 refl))
+    on_err _ (cut_at_first s (FromBase s limit (c.args.words).now) _ c.lo-lowest.ensures.in_range _ c.in_err-current.ensures.err (branch_cut_off (base_of s) (candidates s (base_of s)) (c.args.words).now 1 refl))
 
 pub candidates-requires : goal.candidates-requires
 candidates-requires g c =
@@ -85,4 +85,5 @@ pub returns-clause-ok : goal.returns-clause-ok
 returns-clause-ok g c =
     let s = setting_of (c.args.task).now in
     let limit = ((c.args.task).now).limit in
-    walk_whole s limit (c.args.words).now _ _ c.draws.walk.current (c.draws.walk.open).items _ _ c.draws.invariant.came (inl c.draws-test.false) c.draws.invariant.within
+    let h : limit ≤ c.draws.log.made = search rules in
+    walk_whole s limit (c.args.words).now _ _ c.draws.walk.current (c.draws.walk.open).items _ _ c.draws.invariant.came (inl h) c.draws.invariant.within

@@ -15,7 +15,7 @@ branch_walk-requires-clause-known g c = record { compiles = c.requires.compiles;
 pub returns-in_err-log-clause-part : goal.returns-in_err-log-clause-part
 returns-in_err-log-clause-part g c =
     let s = setting (c.args.checked).now (c.args.bounds).now c.args.budget in
-    on_err _ (part_of_none s (FromBase s c.args.runs (seeded c.args.seed)) _ c.lo-_lowest.ensures.in_range _ refl (branch_cut_off (base_of s) (candidates s (base_of s)) (seeded c.args.seed) 1 refl))
+    on_err _ (part_of_none s (FromBase s c.args.runs (seeded c.args.seed)) _ c.lo-lowest.ensures.in_range _ refl (branch_cut_off (base_of s) (candidates s (base_of s)) (seeded c.args.seed) 1 refl))
 
 pub returns-in_err-branch_walk-clause-part : goal.returns-in_err-branch_walk-clause-part
 returns-in_err-branch_walk-clause-part g c =

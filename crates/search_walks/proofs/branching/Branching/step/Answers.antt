@@ -5,7 +5,7 @@ use Rattle.search_walks.specs.Task.{setting_of}
 use Rattle.search_walks.proofs.OnLaws.{on_err}
 use Rattle.search_walks.proofs.OfferLaws.{in_at, got_at, few_events, gathered, fewer_offering}
 use Rattle.search_walks.proofs.TriedLaws.{none_made, run_made, run_is}
-use Rattle.search_walks.proofs.BranchLaws.{drew, came_none, came_run, came_some, came_cut, falls_none, falls_run}
+use Rattle.search_walks.proofs.BranchLaws.{drew, came_none, came_run, step_some, step_cut, falls_none, falls_run}
 use Rattle.search_walks.proofs.branching.Branching.step.Goals as goal
 
 pub try_one-requires-clause-there : goal.try_one-requires-clause-there
@@ -47,7 +47,7 @@ returns-in_err-tried-clause-err g c =
     let below : c.draw-at.result < length v.items = omega (arith, b, n) in
     let d = drew v.items (c.remove-candidate.new.self).items c.remove-candidate.result (c.args.words).now c.draw-at.new.words c.draw-at.result (c.draw-at.ensures.value ∙ ap (λ m. draw m (c.args.words).now) n) below
         c.remove-candidate.ensures.value c.remove-candidate.ensures.items c.draw-at.ensures.taken in
-    on_err _ (λ start before came. came_some s ((c.args.task).now).limit start before (c.args.self).now.current v.items (c.remove-candidate.new.self).items c.remove-candidate.result (c.args.words).now c.draw-at.new.words _ (c.args.log).now c.requires.room d came _ c.in_err-tried.ensures.err)
+    on_err _ (step_some s ((c.args.task).now).limit (c.args.self).now.current v.items (c.remove-candidate.new.self).items c.remove-candidate.result (c.args.words).now c.draw-at.new.words _ _ (c.args.log).now c.requires.room d c.in_err-tried.ensures.err)
 
 pub returns-in_err-self-clause-err : goal.returns-in_err-self-clause-err
 returns-in_err-self-clause-err g c =
@@ -61,7 +61,7 @@ returns-in_err-self-clause-err g c =
     let d = drew v.items (c.remove-candidate.new.self).items c.remove-candidate.result (c.args.words).now c.draw-at.new.words c.draw-at.result (c.draw-at.ensures.value ∙ ap (λ m. draw m (c.args.words).now) n) below
         c.remove-candidate.ensures.value c.remove-candidate.ensures.items c.draw-at.ensures.taken in
     let t = subst (TriedOne s _ _ _ _ _ _) c.in-Some.is c.in_ok-tried.ensures.ok in
-    on_err _ (λ start before came. came_cut s ((c.args.task).now).limit start before (c.args.self).now.current v.items (c.remove-candidate.new.self).items c.remove-candidate.result (c.args.words).now c.draw-at.new.words _ (c.args.log).now c.requires.room d came _ _ c.in-Some.tried t)
+    on_err _ (step_cut s ((c.args.task).now).limit (c.args.self).now.current v.items (c.remove-candidate.new.self).items c.remove-candidate.result (c.args.words).now c.draw-at.new.words _ _ (c.args.log).now c.requires.room d _ c.in-Some.tried t)
 
 pub returns-in_default-clause-came : goal.returns-in_default-clause-came
 returns-in_default-clause-came g c =
