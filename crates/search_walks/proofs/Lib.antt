@@ -14,10 +14,13 @@ pub mod CoverLaws
 pub mod TakeLaws
 pub mod EndLaws
 pub mod FollowLaws
+pub mod ItemLaws
 pub mod LoggedLaws
 pub mod OfferLaws
 pub mod BranchLaws
 pub mod PassLaws
-pub mod TriedLaws
+pub mod ComesLaws
 pub mod WholeLaws
 pub mod DrawLaws
+pub mod TriedLaws
+pub mod SumLaws

@@ -1,6 +1,6 @@
 //! What a walk does at each step: it runs an input, or solves one, and lists what comes of it.
 
-ghost use Rattle.std.specs.Prelude.{◌≡◌, ◌<◌, ◌≤◌, ◌+◌, ◌*◌, true, false, List, length, All, IfOk, IfErr, OnErr};
+ghost use Rattle.std.specs.Prelude.{◌≡◌, ◌<◌, ◌≤◌, ◌+◌, ◌*◌, true, false, List, length, All, IfOk, IfErr, OnErr, count_by};
 ghost use Rattle.cc_base.specs.Outcomes.{HasByte};
 ghost use Rattle.cc_base.specs.Paths.{BeginsWith, In};
 ghost use Rattle.cc_model.specs.Listing.{Item};
@@ -60,7 +60,9 @@ pub struct WalkSummary {
 }
 
 /// How many outcomes of decisions are covered.
-fn count_covered(covered: &[bool]) -> u64 {
+fn count_covered(covered: &[bool]) -> u64
+    ensures { result ≡ count_by (λ b. b) covered.now }
+{
     covered.iter().filter(|b| **b).count() as u64
 }
 
