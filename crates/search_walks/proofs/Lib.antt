@@ -16,6 +16,12 @@ pub mod EndLaws
 pub mod FollowLaws
 pub mod ItemLaws
 pub mod LoggedLaws
+pub mod OfferLaws
+pub mod BranchLaws
+pub mod PassLaws
+pub mod ComesLaws
+pub mod WholeLaws
+pub mod DrawLaws
 pub mod TriedLaws
 pub mod SumLaws
 pub mod NearLaws

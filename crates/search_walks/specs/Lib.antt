@@ -17,3 +17,5 @@ pub mod Steps
 pub mod Logged
 pub mod Nearest
 pub mod Course
+pub mod Branching
+pub mod Passing

@@ -1,6 +1,7 @@
 //! The three walks over the runs of a tested function: random branch, uniform random, control-flow directed.
 #![tactic(auto)]
 
+mod branching;
 mod candidates;
 mod choices;
 mod covering;
@@ -11,6 +12,7 @@ mod fault;
 mod flow;
 mod lines;
 mod log;
+mod passing;
 mod paths;
 mod rows;
 mod runs;
