@@ -117,16 +117,22 @@ module _ (c : Checked) (v : List (Option ℕ)) (cs : List Offer) where
       by (Some (j, m)) (Some d) p q = nearest_of (nat_lt d m) refl
         where
           nearest_of : (b : Bool) → nat_lt d m ≡ b → IsFirstUpTo (IsAtPlace c v cs) (k + 1) (if nat_lt d m then Some (k, d) else Some (j, m))
-          nearest_of true e = let l = ltb-true d m e in subst (λ b. IsFirstUpTo (IsAtPlace c v cs) (k + 1) (if b then Some (k, d) else Some (j, m))) (sym e)
-              (omega arith, record { offer = x; is = at; at = q.0 }, λ i n h w. elim (split i n h w) [
-                | inl g ↦ (let r = (p.2 i n g w).0 in (omega (arith, l, r), λ y. omega (arith, l, r)))
-                | inr g ↦ (q.1 n g.1, λ y. let z = g.0 in absurd (omega (arith, y, z)))
-              ])
-          nearest_of false e = let l = ltb-false d m e in subst (λ b. IsFirstUpTo (IsAtPlace c v cs) (k + 1) (if b then Some (k, d) else Some (j, m))) (sym e)
-              (let h = p.0 in omega (arith, h), p.1, λ i n h w. elim (split i n h w) [
-                | inl g ↦ p.2 i n g w
-                | inr g ↦ (let r = q.1 n g.1 in let z = g.0 in let b = p.0 in (omega (arith, l, r), λ y. absurd (omega (arith, y, z, b))))
-              ])
+          nearest_of true e = let l = ltb-true d m e in subst (λ b. IsFirstUpTo (IsAtPlace c v cs) (k + 1) (if b then Some (k, d) else Some (j, m))) (sym e) (
+            omega arith,
+            record { offer = x; is = at; at = q.0 },
+            λ i n h w. elim (split i n h w) [
+              | inl g ↦ (let r = (p.2 i n g w).0 in (omega (arith, l, r), λ y. omega (arith, l, r)))
+              | inr g ↦ (q.1 n g.1, λ y. let z = g.0 in absurd (omega (arith, y, z)))
+            ],
+          )
+          nearest_of false e = let l = ltb-false d m e in subst (λ b. IsFirstUpTo (IsAtPlace c v cs) (k + 1) (if b then Some (k, d) else Some (j, m))) (sym e) (
+            let h = p.0 in omega (arith, h),
+            p.1,
+            λ i n h w. elim (split i n h w) [
+              | inl g ↦ p.2 i n g w
+              | inr g ↦ (let r = q.1 n g.1 in let z = g.0 in let b = p.0 in (omega (arith, l, r), λ y. absurd (omega (arith, y, z, b))))
+            ],
+          )
 
   pub none_first : (k : ℕ) (f : Option (ℕ × ℕ)) → f ≡ None → length cs ≤ k → IsFirstUpTo (IsAtPlace c v cs) k f → IsFirst (IsAtPlace c v cs) None
   none_first k f e h p = let r = subst (IsFirstUpTo (IsAtPlace c v cs) k) e p in λ i d w. let l = slice_get_within cs i w.offer w.is in r i d (omega (arith, h, l)) w

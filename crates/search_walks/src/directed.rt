@@ -33,13 +33,7 @@ fn lesser(a: Option<u32>, b: Option<u32>) -> Option<u32>
         None => b,
         Some(x) => match b {
             None => a,
-            Some(y) => {
-                if y < x {
-                    b
-                } else {
-                    a
-                }
-            }
+            Some(y) => { if y < x { b } else { a } }
         },
     }
 }
@@ -89,17 +83,16 @@ fn distance_at_token(
 {
     let mut least = None;
     for site in 0..checked.sites.len() {
-        least = lesser(least, distance_at_site(distances, checked, token, site, side));
+        least = lesser(
+            least,
+            distance_at_site(distances, checked, token, site, side),
+        );
     }
     least
 }
 
 /// The distance of a candidate.
-fn distance_of(
-    distances: &[Option<u32>],
-    checked: &Checked,
-    candidate: Candidate,
-) -> Option<u32>
+fn distance_of(distances: &[Option<u32>], checked: &Checked, candidate: Candidate) -> Option<u32>
     requires { length distances.now ≡ 2 * length (checked.now).sites }
     ensures { IsLeast (IsAtOffer checked.now distances.now candidate) result }
 {
@@ -115,11 +108,7 @@ fn distance_of(
 }
 
 /// The place and the distance of the nearest candidate so far, with one more.
-fn nearer(
-    found: Option<(usize, u32)>,
-    at: usize,
-    distance: Option<u32>,
-) -> Option<(usize, u32)>
+fn nearer(found: Option<(usize, u32)>, at: usize, distance: Option<u32>) -> Option<(usize, u32)>
     ensures { result ≡ nearer found at distance }
 {
     match distance {

@@ -46,7 +46,7 @@ returns-in_err-tried-clause-err g c =
     let b = c.draw-at.ensures.below in
     let below : c.draw-at.result < length v.items = omega (arith, b, n) in
     let d = drew v.items (c.remove-candidate.new.self).items c.remove-candidate.result (c.args.words).now c.draw-at.new.words c.draw-at.result (c.draw-at.ensures.value ∙ ap (λ m. draw m (c.args.words).now) n) below
-        c.remove-candidate.ensures.value c.remove-candidate.ensures.items c.draw-at.ensures.taken in
+    c.remove-candidate.ensures.value c.remove-candidate.ensures.items c.draw-at.ensures.taken in
     on_err _ (step_some s ((c.args.task).now).limit (c.args.self).now.current v.items (c.remove-candidate.new.self).items c.remove-candidate.result (c.args.words).now c.draw-at.new.words _ _ (c.args.log).now c.requires.room d c.in_err-tried.ensures.err)
 
 pub returns-in_err-self-clause-err : goal.returns-in_err-self-clause-err
@@ -59,7 +59,7 @@ returns-in_err-self-clause-err g c =
     let b = c.draw-at.ensures.below in
     let below : c.draw-at.result < length v.items = omega (arith, b, n) in
     let d = drew v.items (c.remove-candidate.new.self).items c.remove-candidate.result (c.args.words).now c.draw-at.new.words c.draw-at.result (c.draw-at.ensures.value ∙ ap (λ m. draw m (c.args.words).now) n) below
-        c.remove-candidate.ensures.value c.remove-candidate.ensures.items c.draw-at.ensures.taken in
+    c.remove-candidate.ensures.value c.remove-candidate.ensures.items c.draw-at.ensures.taken in
     let t = subst (TriedOne s _ _ _ _ _ _) c.in-Some.is c.in_ok-tried.ensures.ok in
     on_err _ (step_cut s ((c.args.task).now).limit (c.args.self).now.current v.items (c.remove-candidate.new.self).items c.remove-candidate.result (c.args.words).now c.draw-at.new.words _ _ (c.args.log).now c.requires.room d _ c.in-Some.tried t)
 
@@ -73,7 +73,7 @@ returns-in_default-clause-came g c =
     let b = c.draw-at.ensures.below in
     let below : c.draw-at.result < length v.items = omega (arith, b, n) in
     let d = drew v.items (c.remove-candidate.new.self).items c.remove-candidate.result (c.args.words).now c.draw-at.new.words c.draw-at.result (c.draw-at.ensures.value ∙ ap (λ m. draw m (c.args.words).now) n) below
-        c.remove-candidate.ensures.value c.remove-candidate.ensures.items c.draw-at.ensures.taken in
+    c.remove-candidate.ensures.value c.remove-candidate.ensures.items c.draw-at.ensures.taken in
     let e : c.in_ok-tried.tried ≡ None = search rules in
     let t = subst (TriedOne s _ _ _ _ _ _) e c.in_ok-tried.ensures.ok in
     λ start before came. came_none s ((c.args.task).now).limit start before (c.args.self).now.current v.items (c.remove-candidate.new.self).items c.remove-candidate.result (c.args.words).now c.draw-at.new.words _ (c.args.log).now c.requires.room d came _ _ t
@@ -117,7 +117,7 @@ returns-clause-came g c =
     let b = c.draw-at.ensures.below in
     let below : c.draw-at.result < length v.items = omega (arith, b, n) in
     let d = drew v.items (c.remove-candidate.new.self).items c.remove-candidate.result (c.args.words).now c.draw-at.new.words c.draw-at.result (c.draw-at.ensures.value ∙ ap (λ m. draw m (c.args.words).now) n) below
-        c.remove-candidate.ensures.value c.remove-candidate.ensures.items c.draw-at.ensures.taken in
+    c.remove-candidate.ensures.value c.remove-candidate.ensures.items c.draw-at.ensures.taken in
     let t = subst (TriedOne s _ _ _ _ _ _) c.in-Some.is c.in_ok-tried.ensures.ok in
     let k = gathered s (c.in-Some.tried).run (run_is s _ _ _ _ _ _ c.in-Some.tried t) (c.in_ok-self.field-0).items _ c.in_ok-self.ensures c.as_slice.ensures in
     λ start before came. came_run s ((c.args.task).now).limit start before (c.args.self).now.current v.items (c.remove-candidate.new.self).items c.remove-candidate.result (c.args.words).now c.draw-at.new.words _ (c.args.log).now c.requires.room d came _ _ c.in-Some.tried (c.in_ok-self.field-0).items t k.1
