@@ -229,9 +229,9 @@ pass_over s limit start before passes cur k g log now stands a e = record { inpu
     by (inl f) = inl f
     by (inr f) = inr (f ∙ ap length (stands.run).path)
 
-pub last_of : (left made limit : ℕ) → (left ≡ 0) ⊎ (made ≡ limit) → (left ≡ 0) ⊎ (limit ≤ made)
-last_of left made limit (inl e) = inl e
-last_of left made limit (inr e) = inr (omega (arith, e))
+pub last_of : (passes made limit : ℕ) → (passes ≡ 0) ⊎ (made ≡ limit) → (passes ≡ 0) ⊎ (limit ≤ made)
+last_of passes made limit (inl e) = inl e
+last_of passes made limit (inr e) = inr (omega (arith, e))
 
 -- the walk is cut off behind the base run
 pub base_cut : (s : Setting) (limit : ℕ) (start : Lcg) (before new : Option (List ℕ)) (l m : Log) (r : Made) → Nothing (length s.checked.sites) l → Started s before new l m r → WalkedSome s (FromStart s limit start true) before new

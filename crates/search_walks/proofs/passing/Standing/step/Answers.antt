@@ -102,8 +102,8 @@ returns-in_err-tried-clause-err g c =
     let d = subst (DrawnAt s _ _ _ _) c.in-Some.is c.in_ok-drawn.ensures in
     on_err _ (event_some s limit cur r c.current-run.ensures k c.requires.stands c.requires.there (c.args.words).now c.draw_at.new.words (c.args.log).now c.requires.room c.in-Some.outcome d _ _ c.in_err-tried.ensures.err)
 
-pub returns-in_default-2-clause-came : goal.returns-in_default-2-clause-came
-returns-in_default-2-clause-came g c =
+pub returns-in_default-tried-clause-came : goal.returns-in_default-tried-clause-came
+returns-in_default-tried-clause-came g c =
     let s = setting_of (c.args.task).now in
     let limit = ((c.args.task).now).limit in
     let cur = current_of (c.args.self).now (c.args.base).now in
@@ -114,8 +114,8 @@ returns-in_default-2-clause-came g c =
     let t = subst (TriedOne s _ _ _ _ _ _) e c.in_ok-tried.ensures.ok in
     event_none s limit cur r c.current-run.ensures k c.requires.stands c.requires.there (c.args.words).now c.draw_at.new.words (c.args.log).now c.requires.room c.in-Some.outcome d _ refl _ _ _ t
 
-pub returns-in_default-2-clause-stands : goal.returns-in_default-2-clause-stands
-returns-in_default-2-clause-stands g c =
+pub returns-in_default-tried-clause-stands : goal.returns-in_default-tried-clause-stands
+returns-in_default-tried-clause-stands g c =
     let s = setting_of (c.args.task).now in
     let limit = ((c.args.task).now).limit in
     let cur = current_of (c.args.self).now (c.args.base).now in
@@ -123,8 +123,8 @@ returns-in_default-2-clause-stands g c =
     let k = ((c.args.self).now).event in
     stands_next s limit cur r c.current-run.ensures k c.requires.stands c.requires.there _ refl
 
-pub returns-in_default-2-clause-within : goal.returns-in_default-2-clause-within
-returns-in_default-2-clause-within g c =
+pub returns-in_default-tried-clause-within : goal.returns-in_default-tried-clause-within
+returns-in_default-tried-clause-within g c =
     let s = setting_of (c.args.task).now in
     let limit = ((c.args.task).now).limit in
     let cur = current_of (c.args.self).now (c.args.base).now in
@@ -137,8 +137,8 @@ returns-in_default-2-clause-within g c =
     let h = c.requires.room in
     omega (arith, m, h)
 
-pub returns-in_default-2-clause-size : goal.returns-in_default-2-clause-size
-returns-in_default-2-clause-size g c =
+pub returns-in_default-tried-clause-size : goal.returns-in_default-tried-clause-size
+returns-in_default-tried-clause-size g c =
     let s = setting_of (c.args.task).now in
     let limit = ((c.args.task).now).limit in
     let cur = current_of (c.args.self).now (c.args.base).now in
@@ -149,8 +149,8 @@ returns-in_default-2-clause-size g c =
     let t = subst (TriedOne s _ _ _ _ _ _) e c.in_ok-tried.ensures.ok in
     none_size s _ _ _ _ _ _ t
 
-pub returns-in_default-2-clause-falls : goal.returns-in_default-2-clause-falls
-returns-in_default-2-clause-falls g c =
+pub returns-in_default-tried-clause-falls : goal.returns-in_default-tried-clause-falls
+returns-in_default-tried-clause-falls g c =
     let s = setting_of (c.args.task).now in
     let limit = ((c.args.task).now).limit in
     let cur = current_of (c.args.self).now (c.args.base).now in
@@ -169,8 +169,8 @@ returns-clause-came g c =
     let r = (c.current-run.result).now in
     let k = ((c.args.self).now).event in
     let d = subst (DrawnAt s _ _ _ _) c.in-Some.is c.in_ok-drawn.ensures in
-    let t = subst (TriedOne s _ _ _ _ _ _) c.in-Some-2.is c.in_ok-tried.ensures.ok in
-    event_run s limit cur r c.current-run.ensures k c.requires.stands c.requires.there (c.args.words).now c.draw_at.new.words (c.args.log).now c.requires.room c.in-Some.outcome d c.event_behind-self.result _ _ _ c.in-Some-2.tried t c.event_behind-self.ensures.kept c.event_behind-self.ensures.left
+    let t = subst (TriedOne s _ _ _ _ _ _) c.in-Some-tried.is c.in_ok-tried.ensures.ok in
+    event_run s limit cur r c.current-run.ensures k c.requires.stands c.requires.there (c.args.words).now c.draw_at.new.words (c.args.log).now c.requires.room c.in-Some.outcome d c.event_behind-self.result _ _ _ c.in-Some-tried.tried t c.event_behind-self.ensures.kept c.event_behind-self.ensures.left
 
 pub returns-clause-stands : goal.returns-clause-stands
 returns-clause-stands g c =
@@ -180,8 +180,8 @@ returns-clause-stands g c =
     let r = (c.current-run.result).now in
     let k = ((c.args.self).now).event in
     let d = subst (DrawnAt s _ _ _ _) c.in-Some.is c.in_ok-drawn.ensures in
-    let t = subst (TriedOne s _ _ _ _ _ _) c.in-Some-2.is c.in_ok-tried.ensures.ok in
-    stands_run s (r.trace).input k c.event_behind-self.result c.in-Some.outcome r.path _ _ _ _ c.in-Some-2.tried (run_there s limit cur r c.current-run.ensures k c.requires.stands c.requires.there).path (below_there s limit cur r c.current-run.ensures k c.requires.stands c.requires.there) t c.event_behind-self.ensures.kept c.event_behind-self.ensures.left
+    let t = subst (TriedOne s _ _ _ _ _ _) c.in-Some-tried.is c.in_ok-tried.ensures.ok in
+    stands_run s (r.trace).input k c.event_behind-self.result c.in-Some.outcome r.path _ _ _ _ c.in-Some-tried.tried (run_there s limit cur r c.current-run.ensures k c.requires.stands c.requires.there).path (below_there s limit cur r c.current-run.ensures k c.requires.stands c.requires.there) t c.event_behind-self.ensures.kept c.event_behind-self.ensures.left
 
 pub returns-clause-within : goal.returns-clause-within
 returns-clause-within g c =
@@ -191,8 +191,8 @@ returns-clause-within g c =
     let r = (c.current-run.result).now in
     let k = ((c.args.self).now).event in
     let d = subst (DrawnAt s _ _ _ _) c.in-Some.is c.in_ok-drawn.ensures in
-    let t = subst (TriedOne s _ _ _ _ _ _) c.in-Some-2.is c.in_ok-tried.ensures.ok in
-    let m = run_made s _ _ _ _ _ _ c.in-Some-2.tried t in
+    let t = subst (TriedOne s _ _ _ _ _ _) c.in-Some-tried.is c.in_ok-tried.ensures.ok in
+    let m = run_made s _ _ _ _ _ _ c.in-Some-tried.tried t in
     let h = c.requires.room in
     omega (arith, m, h)
 
@@ -204,8 +204,8 @@ returns-clause-size g c =
     let r = (c.current-run.result).now in
     let k = ((c.args.self).now).event in
     let d = subst (DrawnAt s _ _ _ _) c.in-Some.is c.in_ok-drawn.ensures in
-    let t = subst (TriedOne s _ _ _ _ _ _) c.in-Some-2.is c.in_ok-tried.ensures.ok in
-    run_size s _ _ _ _ _ _ c.in-Some-2.tried t
+    let t = subst (TriedOne s _ _ _ _ _ _) c.in-Some-tried.is c.in_ok-tried.ensures.ok in
+    run_size s _ _ _ _ _ _ c.in-Some-tried.tried t
 
 pub returns-clause-falls : goal.returns-clause-falls
 returns-clause-falls g c =
@@ -215,5 +215,5 @@ returns-clause-falls g c =
     let r = (c.current-run.result).now in
     let k = ((c.args.self).now).event in
     let d = subst (DrawnAt s _ _ _ _) c.in-Some.is c.in_ok-drawn.ensures in
-    let t = subst (TriedOne s _ _ _ _ _ _) c.in-Some-2.is c.in_ok-tried.ensures.ok in
-    falls_back limit _ _ k _ _ _ (run_made s _ _ _ _ _ _ c.in-Some-2.tried t) c.requires.room (path_short s (c.in-Some-2.tried).run (run_is s _ _ _ _ _ _ c.in-Some-2.tried t))
+    let t = subst (TriedOne s _ _ _ _ _ _) c.in-Some-tried.is c.in_ok-tried.ensures.ok in
+    falls_back limit _ _ k _ _ _ (run_made s _ _ _ _ _ _ c.in-Some-tried.tried t) c.requires.room (path_short s (c.in-Some-tried.tried).run (run_is s _ _ _ _ _ _ c.in-Some-tried.tried t))
