@@ -190,10 +190,9 @@ fn answer_run<F: Files, K: Sink, E: Sink>(
     ensures held { F.held files.new ≡ F.held files.old }
 {
     if is_search(run.strategy) {
-        answer_list(alloc, words, run, files, out, err)
-    } else {
-        answer_walk(alloc, words, run, files, out, err)
+        return answer_list(alloc, words, run, files, out, err);
     }
+    answer_walk(alloc, words, run, files, out, err)
 }
 
 /// Answers a call whose words are `trace` and what follows.

@@ -1,6 +1,6 @@
 //! The report on a walk over the runs of a program.
 
-ghost use Rattle.std.specs.Prelude.{◌≡◌, ◌^◌, ◌<◌, ◌≤◌, IfOk, IfErr, OnErr, true, false};
+ghost use Rattle.std.specs.Prelude.{◌≡◌, ◌^◌, ◌<◌, ◌≤◌, IfOk, IfErr, OnErr, true, false, if◌then◌else◌};
 ghost use Rattle.cc_model.specs.declared.commands.Strategy.TheVariants.{Dfs, Random, UniformRandom, Cfg};
 ghost use Rattle.cc_model.specs.CheckedProgram.{core_of};
 ghost use Rattle.cc_model.specs.Graphs.{PointsToCells};
@@ -156,6 +156,13 @@ fn ended_line(alloc: Global, summary: &WalkSummary) -> Result<Vec<u8>, NoMemory>
     Ok(line)
 }
 
+/// The status of a walk: 1 where a run ends as a fault, else 0.
+fn status_of(fault: bool) -> u8
+    ensures { result ≡ (if fault then 1 else 0) }
+{
+    if fault { 1 } else { 0 }
+}
+
 /// Walks over the runs of a program, and writes the report, each line by a write of its own. The status is 1 where a run ends as
 /// a fault, else 0.
 pub fn write_walk<K: Sink>(
@@ -182,5 +189,5 @@ pub fn write_walk<K: Sink>(
         return Err(Refusal::NoMemory);
     };
     write_line(out, &last)?;
-    Ok(Status(if summary.fault { 1 } else { 0 }))
+    Ok(Status(status_of(summary.fault)))
 }
