@@ -1,7 +1,7 @@
 #!/usr/bin/env bash
-# Times the walks: up to 10,000 runs of each on a list program, and the flow-directed one on chains of decisions, each run of
-# which covers something new. Takes the program as ./tevgoral has built it, or PROGRAM. No part of the gate. Wants GNU time
-# as /usr/bin/time.
+# Times the walks: up to 10,000 runs of each on a list program, and the flow-directed one on decisions that hang on one
+# parameter each, so that each run covers something new. The flow-directed walk ends where nothing new is in reach. Takes the
+# program as ./tevgoral has built it, or PROGRAM. No part of the gate. Wants GNU time as /usr/bin/time.
 set -euo pipefail
 top=$(cd "$(dirname "$0")/.." && pwd)
 program=${PROGRAM:-$top/tevgoral}
@@ -24,9 +24,15 @@ int f(struct cell *p, int x) {
 }
 C
 
-# a decision for each number
-chain() {
-    awk -v n="$1" 'BEGIN { print "int f(int x) {"; for (i = 0; i < n; i++) printf "  if (x == %d) return %d;\n", i + 1, i + 1; print "  return 0;\n}" }'
+# so many parameters, each with a decision of its own
+independent() {
+    awk -v n="$1" 'BEGIN {
+        printf "int f("
+        for (i = 1; i <= n; i++) printf "%sint a%d", (i > 1 ? ", " : ""), i
+        print ") {\n  int n = 0;"
+        for (i = 1; i <= n; i++) printf "  if (a%d > 0) n = %d;\n", i, i
+        print "  return n;\n}"
+    }'
 }
 
 lscpu | grep -E '^(Model name|CPU\(s\)):' | sed 's/:  */: /'
@@ -40,7 +46,7 @@ for walk in -random -uniform_random -cfg; do
     row list 1000 "$walk" 50
     row list 10000 "$walk" 50
 done
-for n in 64 128 256 512; do
-    chain "$n" >"chain$n.c"
-    row "chain$n" 10000 -cfg 1024
+for n in 32 64 128 256; do
+    independent "$n" >"own$n.c"
+    row "own$n" 10000 -cfg 1024
 done
