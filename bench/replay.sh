@@ -1,5 +1,5 @@
 #!/usr/bin/env bash
-# Times `replay` of 10,000 tests of a list program: the report of a search, its tests one after the other until there are so
+# Times `replay` of 10,000 tests of examples/cell.c: the report of a search, its tests one after the other until there are so
 # many. Takes the program as ./tevgoral has built it, or PROGRAM. No part of the gate. Wants GNU time as /usr/bin/time.
 set -euo pipefail
 top=$(cd "$(dirname "$0")/.." && pwd)
@@ -8,19 +8,7 @@ room=$(mktemp -d)
 trap 'rm -rf "$room"' EXIT
 cd "$room"
 
-cat >t.c <<'C'
-#include <stdlib.h>
-typedef struct cell { int v; struct cell *next; } cell;
-int f(int v) { return 2 * v + 1; }
-int testme(cell *p, int x) {
-  if (x > 0)
-    if (p != NULL)
-      if (f(x) == p->v)
-        if (p->next == p) abort();
-  return 0; /* no fault */
-}
-C
-
+cp "$top/examples/cell.c" t.c
 "$program" run t.c testme 100 -dfs 10 >report || true
 lscpu | grep -E '^(Model name|CPU\(s\)):' | sed 's/:  */: /'
 printf '%8s %10s %10s %8s  %s\n' tests bytes seconds MB answer
