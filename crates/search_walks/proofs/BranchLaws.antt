@@ -13,7 +13,7 @@ use Rattle.search_walks.specs.Branching.{plain_of, FromBase, FromRun, CameTo, le
 use Rattle.search_walks.specs.Counted.{Nothing}
 use Rattle.search_walks.specs.Draws.{draw, after_draw}
 use Rattle.search_walks.specs.Logged.{Along, Walked, WalkedSome}
-use Rattle.search_walks.specs.Setting.{Setting, base_of}
+use Rattle.search_base.specs.Setting.{Setting, base_of}
 use Rattle.search_walks.specs.Steps.{Started, TriedOne, TriedSome, no_input, past_budget, was_run}
 use Rattle.search_walks.specs.Walks.{Branches, branch_full, branch_none_left, branch_cut_off, branch_never_one, branch_spent_one, branch_run_one, Candidate as Plain, IsItemOf, IsSpent, Gives, prediction, candidates, without}
 use Rattle.search_walks.proofs.LoggedLaws.{along_first, along_none, along_spent, along_run, along_end, along_cut, along_some}
@@ -84,9 +84,9 @@ module _ (s : Setting) (limit : ℕ) where
       came_none new m (no_input n e f) =
           subst (λ k. CameTo s limit start before r rest h k new) (sym f) (subst (λ k. CameTo s limit start before r rest h l k) (sym e)
           (along_none s (FromBase s limit start) Here There before mid l a (λ cuts items w. branch_never_one (r.trace).input (map plain_of untried) g l.made items (plain_of c) room d.is n (go_on cuts items w))))
-      came_none new m (past_budget n e f) =
+      came_none new m (past_budget n b e f) =
           subst (λ k. CameTo s limit start before r rest h k new) (sym f)
-          (along_spent s (FromBase s limit start) Here There before mid new l (prediction s (r.trace).input (plain_of c)) a e
+          (along_spent s (FromBase s limit start) Here There before mid new l (prediction s (r.trace).input (plain_of c)) b a e
           (λ cuts items w. branch_spent_one (r.trace).input (map plain_of untried) g l.made items (plain_of c) room d.is n (go_on cuts items w)))
 
       pub came_run : (new : Option (List ℕ)) (m : Log) (t : Tried) (next : List Candidate) → TriedOne s (r.trace).input (plain_of c) mid new l m (Some t) → map plain_of next ≡ candidates s ((t.run).trace).input → CameTo s limit start before t.run next h m new

@@ -4,18 +4,18 @@ use Rattle.cc_base.specs.declared.inputs.Input.{Input}
 use Rattle.search_walks.specs.declared.log.Log.{Log}
 use Rattle.search_walks.specs.declared.log.Tried.{Tried}
 use Rattle.search_walks.specs.Made.{RunOf}
-use Rattle.search_walks.specs.Setting.{Setting}
+use Rattle.search_base.specs.Setting.{Setting}
 use Rattle.search_walks.specs.Steps.{TriedOne, no_input, past_budget, was_run}
 use Rattle.search_walks.specs.Walks.{Candidate}
 
 module _ (s : Setting) (u : Input) (c : Candidate) (old new : Option (List ℕ)) (l m : Log) where
   pub none_made : TriedOne s u c old new l m None → m.made ≡ l.made
   none_made (no_input n e f) = ap (λ x. x.made) f
-  none_made (past_budget n e f) = ap (λ x. x.made) f
+  none_made (past_budget n b e f) = ap (λ x. x.made) f
 
   pub none_size : TriedOne s u c old new l m None → length (m.covered).items ≡ length (l.covered).items
   none_size (no_input n e f) = ap (λ x. length (x.covered).items) f
-  none_size (past_budget n e f) = ap (λ x. length (x.covered).items) f
+  none_size (past_budget n b e f) = ap (λ x. length (x.covered).items) f
 
   module _ (t : Tried) where
     pub run_made : TriedOne s u c old new l m (Some t) → m.made ≡ suc l.made

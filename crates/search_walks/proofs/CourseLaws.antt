@@ -29,12 +29,13 @@ use Rattle.search_walks.specs.Distance.{entry, IsDecisionSite, IsDistance, AreDi
 use Rattle.search_walks.specs.Made.{RunOf}
 use Rattle.search_walks.specs.Nearest.{IsAtSite, IsAtToken, IsAtOffer, IsAtPlace, IsFirst}
 use Rattle.search_walks.specs.Offers.{offers_at, offers_from}
-use Rattle.search_walks.specs.Setting.{Setting, layer_of, base_of, Decides, Takes, side_of}
+use Rattle.search_base.specs.Setting.{Setting, layer_of, base_of}
+use Rattle.search_walks.specs.Deciding.{Decides, Takes, side_of}
 use Rattle.search_walks.specs.Steps.{Started}
-use Rattle.search_walks.specs.Terms.{token_in}
+use Rattle.search_base.specs.Terms.{token_in}
 use Rattle.search_walks.specs.Walks.{Candidate, candidates, candidates_from, at_event, without, IsCovered, IsNew, IsFar, IsNearest, HasNone}
 use Rattle.search_walks.proofs.LayerLaws.{half_entry}
-use Rattle.search_walks.proofs.RowLaws.{in_left, in_right, in_either}
+use Rattle.search_base.proofs.PathLaws.{in_left, in_right, in_either}
 use Rattle.search_walks.proofs.TakeLaws.{Beside, entry_of, event_of, token_is}
 
 -- ---- lists
@@ -202,17 +203,17 @@ module _ (s : Setting) (ran : List Input) where
   covers_run i end l m b x c = covers_marked s ran i (l.covered).items (m.covered).items b x.covered c
 
   module _ (limit : ℕ) (cuts : Bool) where
-    pub is_covered : (covered : List Bool) → Covers s ran covered → IsCovered s limit cuts ran covered
+    pub is_covered : (covered : List Bool) → Covers s ran covered → IsCovered s ran covered
     is_covered covered c = record { each = c.each; all = c.all }
 
-    pub is_new : (i : Input) (end : End) (l m : Log) (b : Bool) → Counted s i end l m b → Covers s ran (l.covered).items → b ≡ true → IsNew s limit cuts i ran
+    pub is_new : (i : Input) (end : End) (l m : Log) (b : Bool) → Counted s i end l m b → Covers s ran (l.covered).items → b ≡ true → IsNew s i ran
     is_new i end l m b x c e = let r = (x.covered).one_new.0 e in let w = r.1 in
         (w.site, w.side, w.takes, λ q. no_false ((c.each w.site w.side false (sym (ap (slice_get (l.covered).items) w.number) ∙ r.2)).1 q))
       where
         no_false : false ≡ true → ⊥
         no_false z = cc z
 
-    pub not_new : (i : Input) (end : End) (l m : Log) (b : Bool) → Counted s i end l m b → Covers s ran (l.covered).items → b ≡ false → IsNew s limit cuts i ran → ⊥
+    pub not_new : (i : Input) (end : End) (l m : Log) (b : Bool) → Counted s i end l m b → Covers s ran (l.covered).items → b ≡ false → IsNew s i ran → ⊥
     not_new i end l m b x c e (n, side, t, none) = by (get_or (l.covered).items (entry n side) true) refl
       where
         no_false : b ≡ true → ⊥
@@ -232,7 +233,7 @@ module _ (s : Setting) (ran : List Input) where
         by true g = none ((c.each n side true (slice_get-get_or (l.covered).items (entry n side) true there ∙ ap Some g)).0 refl)
         by false g = no_false ((x.covered).one_new.1 (entry n side, record { site = n; side = side; number = refl; takes = t }, slice_get-get_or (l.covered).items (entry n side) true there ∙ ap Some g))
 
-    pub covers_old : (i : Input) (covered : List Bool) → Covers s ran covered → (IsNew s limit cuts i ran → ⊥) → Covers s (i ∷ ran) covered
+    pub covers_old : (i : Input) (covered : List Bool) → Covers s ran covered → (IsNew s i ran → ⊥) → Covers s (i ∷ ran) covered
     covers_old i covered c n = record { each = λ k side b e. ((λ f. let r = (c.each k side b e).0 f in (r.0, inr r.1, r.2)), back k side b e); all = c.all }
       where
         back : (k : ℕ) (side b : Bool) → slice_get covered (entry k side) ≡ Some b → (u : Input) × In u (i ∷ ran) × Takes s u k side → b ≡ true
@@ -270,10 +271,10 @@ module _ (s : Setting) (t : Tac) (covered : List Bool) (v : List (Option ℕ)) (
           there ∙ ap Some (e ∙ ap Some z)
 
   module _ (r : Trace) (p : Path) (run : RunOf s r p) (limit : ℕ) (cuts : Bool) where
-    pub to_far : (x : Offer) (k : ℕ) → IsOffered r.events x → IsAtOffer s.checked v x k → IsFar s limit cuts t r.input covered (plain x) k
+    pub to_far : (x : Offer) (k : ℕ) → IsOffered r.events x → IsAtOffer s.checked v x k → IsFar s t r.input covered (plain x) k
     to_far x k o a = by (entry_of s.checked (run_of (core_of s.checked) s.limits r.input).log r.events x.event o.event run.plain o.is)
       where
-        by : (b : Entry Outcome) × (slice_get (run_of (core_of s.checked) s.limits r.input).log x.event ≡ Some b) × Beside s.checked b o.event → IsFar s limit cuts t r.input covered (plain x) k
+        by : (b : Entry Outcome) × (slice_get (run_of (core_of s.checked) s.limits r.input).log x.event ≡ Some b) × Beside s.checked b o.event → IsFar s t r.input covered (plain x) k
         by (b, e, h) =
             let w = (a.among).at in
             let i = w.is_site in
@@ -296,7 +297,7 @@ module _ (s : Setting) (t : Tac) (covered : List Bool) (v : List (Option ℕ)) (
               distance = d.each (a.among).site a.side (Some k) w.distance;
             }
 
-    pub from_far : (x : Offer) (k : ℕ) → IsOffered r.events x → IsFar s limit cuts t r.input covered (plain x) k → IsAtOffer s.checked v x k
+    pub from_far : (x : Offer) (k : ℕ) → IsOffered r.events x → IsFar s t r.input covered (plain x) k → IsAtOffer s.checked v x k
     from_far x k o f = by (entry_of s.checked (run_of (core_of s.checked) s.limits r.input).log r.events x.event o.event run.plain o.is)
       where
         by : (b : Entry Outcome) × (slice_get (run_of (core_of s.checked) s.limits r.input).log x.event ≡ Some b) × Beside s.checked b o.event → IsAtOffer s.checked v x k
@@ -322,15 +323,15 @@ module _ (s : Setting) (t : Tac) (covered : List Bool) (v : List (Option ℕ)) (
             }
 
     module _ (cs : List Offer) (offered : (x : Offer) → In x cs → IsOffered r.events x) (ran : List Input) (c : Covers s ran covered) where
-      pub no_nearest : IsFirst (IsAtPlace s.checked v cs) None → HasNone s limit cuts t r.input ran (map plain cs)
+      pub no_nearest : IsFirst (IsAtPlace s.checked v cs) None → HasNone s t r.input ran (map plain cs)
       no_nearest n = record {
         covered = covered;
         is_covered = is_covered s ran limit cuts covered c;
         none = λ i w e at f. let q = from_map plain cs i w at in
-            n i e (record { offer = q.0; is = q.1; at = from_far q.0 e (offered q.0 (in_at cs i q.0 q.1)) (subst (λ y. IsFar s limit cuts t r.input covered y e) q.2 f) });
+            n i e (record { offer = q.0; is = q.1; at = from_far q.0 e (offered q.0 (in_at cs i q.0 q.1)) (subst (λ y. IsFar s t r.input covered y e) q.2 f) });
       }
 
-      pub a_nearest : (j : ℕ) (x : Offer) → slice_get cs j ≡ Some x → IsFirst (IsAtPlace s.checked v cs) (Some j) → IsNearest s limit cuts t r.input ran (map plain cs) j (plain x)
+      pub a_nearest : (j : ℕ) (x : Offer) → slice_get cs j ≡ Some x → IsFirst (IsAtPlace s.checked v cs) (Some j) → IsNearest s t r.input ran (map plain cs) j (plain x)
       a_nearest j x at n = record {
         covered = covered;
         is_covered = is_covered s ran limit cuts covered c;
@@ -338,5 +339,5 @@ module _ (s : Setting) (t : Tac) (covered : List Bool) (v : List (Option ℕ)) (
         d = n.0;
         far = let m = n.1 in let z : m.offer ≡ x = cc (m.is, at) in to_far x n.0 (offered x (in_at cs j x at)) (subst (λ y. IsAtOffer s.checked v y n.0) z m.at);
         least = λ i w e here f. let q = from_map plain cs i w here in
-            n.2 i e (record { offer = q.0; is = q.1; at = from_far q.0 e (offered q.0 (in_at cs i q.0 q.1)) (subst (λ y. IsFar s limit cuts t r.input covered y e) q.2 f) });
+            n.2 i e (record { offer = q.0; is = q.1; at = from_far q.0 e (offered q.0 (in_at cs i q.0 q.1)) (subst (λ y. IsFar s t r.input covered y e) q.2 f) });
       }

@@ -9,8 +9,8 @@ use Rattle.sym_run.specs.declared.trace.Event.{Event}
 use Rattle.search_walks.specs.Distance.{entry, IsDecisionSite}
 use Rattle.search_walks.specs.Covering.{Marks, IsAmong, IsTakenAt, IsTakenUpTo}
 use Rattle.sym_run.specs.Traces.{outcome_at}
-use Rattle.search_walks.specs.Setting.{side_of}
-use Rattle.search_walks.specs.Terms.{token_in}
+use Rattle.search_walks.specs.Deciding.{side_of}
+use Rattle.search_base.specs.Terms.{token_in}
 use Rattle.search_walks.proofs.StepLaws.{get_same, get_other}
 
 module _ (l : List Bool) where

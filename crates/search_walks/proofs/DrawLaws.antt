@@ -10,8 +10,8 @@ use Rattle.search_walks.specs.declared.runs.Made.{Made}
 use Rattle.search_walks.specs.Draws.{draw, after_draw}
 use Rattle.search_walks.specs.Made.{RunOf}
 use Rattle.search_walks.specs.Passing.{DrawnAt, no_draw, own_drawn, other_drawn}
-use Rattle.search_walks.specs.Setting.{Setting, layer_of}
-use Rattle.search_walks.specs.Walks.{AreOutcomes, path_of}
+use Rattle.search_base.specs.Setting.{Setting, layer_of, path_of}
+use Rattle.search_walks.specs.Walks.{AreOutcomes}
 use Rattle.search_walks.proofs.OfferLaws.{got_at, in_at, length_map}
 
 pub some_in : {A : Type 0} → (x : A) → (l : List A) → In x l → 1 ≤ length l

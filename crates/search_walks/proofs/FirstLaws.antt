@@ -2,7 +2,7 @@
 use Rattle.std.proofs.Common.{take, ◌≡◌, ℕ, zero, suc, ◌+◌, ◌<◌, [], ◌∷◌, ◌++◌, length, refl, sym, ap, ap₂, ◌∙◌, subst, arith, get_or}
 use Rattle.cc_base.specs.declared.outcomes.Outcome.{Outcome}
 use Rattle.cc_base.specs.Paths.{Path, BeginsWith}
-use Rattle.search_walks.proofs.PathLaws.{length_begins}
+use Rattle.search_base.proofs.PathLaws.{length_begins}
 
 pub begins_first : (k : ℕ) (l : Path) → BeginsWith l (take k l)
 begins_first zero l = (l, refl)

@@ -1,8 +1,9 @@
 -- A run for a prediction.
-use Rattle.std.proofs.Common.{◌≡◌, ◌↔◌, ℕ, Bool, true, false, List, [], Option, append-nil, refl, sym, ap, ◌∙◌, subst}
+use Rattle.std.proofs.Common.{◌≡◌, ◌↔◌, ℕ, Bool, true, false, List, [], Option, All, append-nil, refl, sym, ap, ◌∙◌, subst}
 use Rattle.cc_base.specs.declared.ends.End.{End}
 use Rattle.cc_base.specs.declared.inputs.Input.{Input}
 use Rattle.cc_base.specs.declared.inputs.Test.{Test}
+use Rattle.cc_base.specs.Outcomes.{HasByte}
 use Rattle.cc_base.specs.Paths.{Path, BeginsWith}
 use Rattle.cc_model.specs.Canonical.{base_input_of}
 use Rattle.cc_model.specs.CheckedProgram.{core_of}
@@ -17,7 +18,8 @@ use Rattle.search_walks.specs.declared.log.Tried.{Tried}
 use Rattle.search_walks.specs.Counted.{Counted}
 use Rattle.search_walks.specs.Made.{RunOf}
 use Rattle.search_walks.specs.Output.{test_at}
-use Rattle.search_walks.specs.Setting.{Setting, layer_of, base_of}
+use Rattle.search_base.specs.Readable.{HasTestLine}
+use Rattle.search_base.specs.Setting.{Setting, layer_of, base_of}
 use Rattle.search_walks.specs.Steps.{IsLine, Followed, FollowedSome, one_came, Started, base_item}
 use Rattle.search_walks.specs.Walks.{Keeps, IsItemOf, kept, left, test_of}
 
@@ -27,17 +29,22 @@ module _ (s : Setting) (r : Made) (run : RunOf s r.trace r.path) where
       ap (λ (q : Path). let t : Test = record { path = q; end = (r.trace).end; input = (r.trace).input } in t) run.path
       ∙ ap (λ (e : End). let t : Test = record { path = ((layer_of s).runs).path (r.trace).input; end = e; input = (r.trace).input } in t) run.end
 
+  can_be_read : HasTestLine (test_of s (r.trace).input)
+  can_be_read = subst HasTestLine same_test (record { cells = run.cells; bytes = run.bytes; line = run.line })
+
   pub test_is : (p : Path) (bytes : List ℕ) → BeginsWith r.path p → bytes ≡ item_line (test_item (test_at r)) → IsLine s (r.trace).input p bytes
   test_is p bytes b e = record {
     item = test_item (test_of s (r.trace).input);
     is_item = kept (subst (λ q. BeginsWith q p) run.path b);
+    few = can_be_read;
     line = e ∙ ap (λ t. item_line (test_item t)) same_test;
   }
 
-  pub stray_is : (p : Path) (bytes : List ℕ) → (BeginsWith r.path p → ⊥) → bytes ≡ item_line (stray_item (test_at r) p) → IsLine s (r.trace).input p bytes
-  stray_is p bytes n e = record {
+  pub stray_is : (p : Path) (bytes : List ℕ) → All HasByte p → (BeginsWith r.path p → ⊥) → bytes ≡ item_line (stray_item (test_at r) p) → IsLine s (r.trace).input p bytes
+  stray_is p bytes h n e = record {
     item = stray_item (test_of s (r.trace).input) p;
     is_item = left (λ b. n (subst (λ q. BeginsWith q p) (sym run.path) b));
+    few = (can_be_read, h);
     line = e ∙ ap (λ t. item_line (stray_item t p)) same_test;
   }
 
@@ -49,6 +56,7 @@ module _ (s : Setting) (r : Made) (run : RunOf s r.trace r.path) where
     kept = ((λ f. subst (λ h. Keeps s h p) e (subst (λ q. BeginsWith q p) run.path (f1 f))), λ k. by b refl (subst (λ q. BeginsWith q p) (sym run.path) (subst (λ h. Keeps s h p) (sym e) k)));
     item = line.item;
     is_item = subst (λ h. IsItemOf s h p line.item) e line.is_item;
+    few = line.few;
     written = w ∙ ap (appended old) (o ∙ line.line);
     counted = subst (λ h. Counted s h (((layer_of s).runs).end h) l m is_new) e (subst (λ z. Counted s (r.trace).input z l m is_new) run.end c);
   }
@@ -76,6 +84,7 @@ module _ (s : Setting) where
   started r bytes wrote is_new old new l m run e f g w c = record {
     run = run;
     input = e;
+    few = subst (λ h. HasTestLine (test_of s h)) e (can_be_read s r run);
     written = w ∙ ap (appended old) (g ∙ f ∙ base_line r run e);
     is_new = is_new;
     counted = subst (λ h. Counted s h (((layer_of s).runs).end h) l m is_new) e (subst (λ z. Counted s (r.trace).input z l m is_new) run.end c);

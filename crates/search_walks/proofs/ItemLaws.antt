@@ -1,8 +1,9 @@
 -- What items write and count where one more is listed.
 use Rattle.std.proofs.Common.{◌≡◌, ℕ, zero, suc, ◌+◌, ◌*◌, ◌<◌, ◌⊎◌, ◌||◌, Bool, true, false, inl, inr, List, [], ◌∷◌, ◌++◌, length, Option, Some, slice_get, append-nil, append_assoc, refl, sym, ap, ◌∙◌, subst, arith}
+use Rattle.std.proofs.lemmas.Option.{slice_get_within}
 use Rattle.cc_base.specs.declared.inputs.Input.{Input}
 use Rattle.cc_base.specs.declared.inputs.Test.{Test}
-use Rattle.cc_base.specs.Paths.{Path}
+use Rattle.cc_base.specs.Paths.{Path, In}
 use Rattle.cc_model.specs.Listing.{Item, test_item, past_item, stray_item, spent_item, unrun_item, WasRun, count_by, is_run}
 use Rattle.cc_model.specs.Report.{item_line, item_lines, is_fault, has_fault}
 use Rattle.cc_model.specs.Tested.{Real}
@@ -10,10 +11,10 @@ use Rattle.cc_outside.specs.Told.{appended, WritesPart}
 use Rattle.cc_outside.proofs.ToldLemmas.{appended-appended, WritesPart-none, WritesPart-after}
 use Rattle.search_walks.specs.Counted.{Took}
 use Rattle.search_walks.specs.Distance.{entry}
-use Rattle.search_walks.specs.Made.{within_of}
-use Rattle.search_walks.specs.Setting.{Setting, layer_of}
+use Rattle.search_base.specs.Readable.{CanBeRead}
+use Rattle.search_base.specs.Setting.{within_of, Setting, layer_of}
 use Rattle.search_walks.specs.Walks.{IsItemOf, kept, left, test_of}
-use Rattle.search_walks.proofs.PathLaws.{in_left, in_right, in_either}
+use Rattle.search_base.proofs.PathLaws.{in_left, in_right, in_either}
 
 -- ---- what is written
 
@@ -121,16 +122,18 @@ real_more s l x i r w h t k = elim (ran_either t l (x ∷ []) k) [
   | inr v ↦ subst (Real ((layer_of s).runs)) (sym (r.only t v)) (record { within = w; path = refl; end = refl })
 ]
 
--- ---- outcomes that a run takes
+pub few_more : (l : List Item) (x : Item) → ((y : Item) → In y l → CanBeRead y) → CanBeRead x → (y : Item) → In y (l ++ x ∷ []) → CanBeRead y
+few_more l x h c y i = elim (in_either y l (x ∷ []) i) [ inl j ↦ h y j | inr j ↦ one j ]
+  where
+    one : In y (x ∷ []) → CanBeRead y
+    one (inl e) = subst CanBeRead (sym e) c
+    one (inr k) = absurd k
 
-some_below : {A : Type 0} → (l : List A) (n : ℕ) (x : A) → slice_get l n ≡ Some x → n < length l
-some_below [] n x e = absurd (cc e)
-some_below (y ∷ l) zero x e = omega arith
-some_below (y ∷ l) (suc n) x e = let h = some_below l n x e in omega (arith, h)
+-- ---- outcomes that a run takes
 
 entry_below : (n m : ℕ) (side : Bool) → n < m → entry n side < 2 * m
 entry_below n m false h = omega (arith, h)
 entry_below n m true h = omega (arith, h)
 
 pub took_below : (s : Setting) (u : Input) (a : ℕ) → Took s u a → a < 2 * length s.checked.sites
-took_below s u a t = let d = (t.takes).2 in subst (λ z. z < 2 * length s.checked.sites) (sym t.number) (entry_below t.site (length s.checked.sites) t.side (some_below s.checked.sites t.site d.site d.is_site))
+took_below s u a t = let d = (t.takes).2 in subst (λ z. z < 2 * length s.checked.sites) (sym t.number) (entry_below t.site (length s.checked.sites) t.side (slice_get_within s.checked.sites t.site d.site d.is_site))

@@ -10,7 +10,8 @@ use Rattle.search_walks.specs.Distance.{entry, IsDecisionSite, DecidesAt, IsPlai
 use Rattle.search_walks.specs.Rows.{row, Has}
 use Rattle.search_walks.specs.Backwards.{Comes, Edge, IsDecision, Arrives, FlowUpTo}
 use Rattle.search_walks.specs.Layers.{IsPassed, HasDistance, Opens, Gives, DecisionsOf, Near, Within, Done, Layer, Found, Passing, IsUncovered, Starts, nones, unpassed}
-use Rattle.search_walks.proofs.RowLaws.{in_left, in_right, in_either, in_push, in_last}
+use Rattle.search_base.proofs.PathLaws.{in_left, in_right, in_either}
+use Rattle.search_walks.proofs.RowLaws.{in_push, in_last}
 
 -- ---- entries
 

@@ -23,13 +23,13 @@ use Rattle.search_walks.specs.Logged.{Along, Walked, WalkedSome}
 use Rattle.search_walks.specs.Made.{RunOf}
 use Rattle.search_walks.specs.Nearest.{IsAtPlace, IsFirst}
 use Rattle.search_walks.specs.Offers.{offers_from}
-use Rattle.search_walks.specs.Setting.{Setting, layer_of, base_of}
+use Rattle.search_base.specs.Setting.{Setting, layer_of, base_of}
 use Rattle.search_walks.specs.Steps.{Followed, Started, TriedOne, no_input, past_budget, was_run, TriedSome, base_item}
 use Rattle.search_walks.specs.Walks.{Candidate, candidates, without, prediction, Gives, IsItemOf, IsNever, IsSpent, IsNew, IsNearest, HasNone, Directed, directed_full, directed_none_near, directed_cut_off, directed_never_one, directed_spent_one, directed_new_one, directed_old_one}
 use Rattle.search_walks.proofs.CourseLaws.{length_map, map_without, in_at, in_without, shorter, plain_offers, are_offered, few_offers, covers_first, covers_run, covers_old, is_new, not_new, no_nearest, a_nearest}
 use Rattle.search_walks.proofs.LoggedLaws.{along_first, along_none, along_spent, along_run, along_end, along_cut, along_some, cut_at_first}
 use Rattle.search_walks.proofs.NewLaws.{new_or}
-use Rattle.search_walks.proofs.TermLaws.{there_is}
+use Rattle.search_base.proofs.TermLaws.{there_is}
 
 -- ---- what is left
 
@@ -144,7 +144,7 @@ module _ (s : Setting) (limit : ℕ) (t : Tac) where
       cut_here new e = along_cut s (FromBase s limit t) (FromCourse s limit t a led.ran l.made) start mid new l led.along e (directed_cut_off input choices led.ran l.made refl)
 
       module _ (room : l.made < limit) (j : ℕ) (x : Offer) (at : slice_get (a.open).items j ≡ Some x) (first : IsFirst (IsAtPlace s.checked (a.far).items (a.open).items) (Some j)) where
-        near : (cuts : Bool) → IsNearest s limit cuts t input led.ran choices j (plain x)
+        near : (cuts : Bool) → IsNearest s t input led.ran choices j (plain x)
         near cuts = a_nearest s t led.seen (a.far).items led.distances (a.run).trace (a.run).path ready.run limit cuts (a.open).items ready.offered led.ran led.seen_covers j x at first
 
         pub cut_within : (new : Option (List ℕ)) → TriedSome s input (plain x) mid new → WalkedSome s (FromBase s limit t true) start new
@@ -153,7 +153,7 @@ module _ (s : Setting) (limit : ℕ) (t : Tac) where
             (λ h. directed_spent_one input choices led.ran l.made [] j (plain x) room (near true) h (directed_cut_off input (without j choices) led.ran l.made refl))
             (λ i y g k. one i y g k (new_or s i led.ran (l.covered).items led.covers limit true))
           where
-            one : (i : Input) (y : Item) → Gives s input (prediction s input (plain x)) i → IsItemOf s i (prediction s input (plain x)) y → IsNew s limit true i led.ran ⊎ (IsNew s limit true i led.ran → ⊥) → From input choices led.ran l.made true (y ∷ [])
+            one : (i : Input) (y : Item) → Gives s input (prediction s input (plain x)) i → IsItemOf s i (prediction s input (plain x)) y → IsNew s i led.ran ⊎ (IsNew s i led.ran → ⊥) → From input choices led.ran l.made true (y ∷ [])
             one i y g k (inl w) = directed_new_one input choices led.ran l.made [] j (plain x) i y room (near true) g k w (directed_cut_off i (candidates s i) (i ∷ led.ran) (suc l.made) refl)
             one i y g k (inr w) = directed_old_one input choices led.ran l.made [] j (plain x) i y room (near true) g k w (directed_cut_off input (without j choices) (i ∷ led.ran) (suc l.made) refl)
 
@@ -185,7 +185,7 @@ module _ (s : Setting) (limit : ℕ) (t : Tac) where
           led_none None e (no_input h w z) = led_same z (along_none s (FromBase s limit t) (FromCourse s limit t a led.ran l.made) (From input (without j choices) led.ran l.made) start new l
               (subst (λ o. Along s (FromBase s limit t) (FromCourse s limit t a led.ran l.made) start o l) (sym w) led.along)
               (λ cuts rest d. directed_never_one input choices led.ran l.made rest j (plain x) room (near cuts) h d))
-          led_none None e (past_budget h w z) = led_same z (along_spent s (FromBase s limit t) (FromCourse s limit t a led.ran l.made) (From input (without j choices) led.ran l.made) start mid new l (prediction s input (plain x)) led.along w
+          led_none None e (past_budget h b w z) = led_same z (along_spent s (FromBase s limit t) (FromCourse s limit t a led.ran l.made) (From input (without j choices) led.ran l.made) start mid new l (prediction s input (plain x)) b led.along w
               (λ cuts rest d. directed_spent_one input choices led.ran l.made rest j (plain x) room (near cuts) h d))
           led_none (Some y) e w = absurd (no_some e)
             where
@@ -202,7 +202,7 @@ module _ (s : Setting) (limit : ℕ) (t : Tac) where
                   (along_run s (FromBase s limit t) (FromCourse s limit t a led.ran l.made) (From input (without j choices) (i ∷ led.ran) (suc l.made)) start i (prediction s input (plain x)) mid new l m z led.along f
                   (λ cuts rest d. directed_old_one input choices led.ran l.made rest j (plain x) i f.item room (near cuts) g f.is_item (none cuts) d))
                 where
-                  none : (cuts : Bool) → IsNew s limit cuts i led.ran → ⊥
+                  none : (cuts : Bool) → IsNew s i led.ran → ⊥
                   none cuts = not_new s led.ran limit cuts i (((layer_of s).runs).end i) l m z.is_new f.counted led.covers (ap (λ (v : Tried). v.is_new) q ∙ e)
 
               by : (o : Option Tried) → o ≡ Some y → TriedOne s input (plain x) mid new l m o → Led s limit t start new m b
@@ -279,7 +279,7 @@ module _ (s : Setting) (u : Input) (c : Candidate) (mid new : Option (List ℕ))
 
   pub same_log : (o : Option Tried) → o ≡ None → TriedOne s u c mid new l m o → m ≡ l
   same_log None e (no_input h w z) = z
-  same_log None e (past_budget h w z) = z
+  same_log None e (past_budget h b w z) = z
   same_log (Some y) e w = absurd (no_some e)
     where
       no_some : Some y ≡ None → ⊥

@@ -1,8 +1,9 @@
 -- What a log holds, item by item.
-use Rattle.std.proofs.Common.{◌≡◌, ℕ, Bool, true, false, ◌<◌, ◌||◌, inl, inr, List, [], ◌∷◌, ◌++◌, length, map, Option, append-nil, append_assoc, refl, sym, ap, ◌∙◌, subst, arith}
+use Rattle.std.proofs.Common.{◌≡◌, ℕ, Bool, true, false, ◌<◌, ◌||◌, inl, inr, List, [], ◌∷◌, ◌++◌, length, map, Option, All, append-nil, append_assoc, refl, sym, ap, ◌∙◌, subst, arith}
 use Rattle.cc_base.specs.declared.inputs.Input.{Input}
 use Rattle.cc_base.specs.declared.inputs.Test.{Test}
 use Rattle.cc_base.specs.Limits.{InRange}
+use Rattle.cc_base.specs.Outcomes.{HasByte}
 use Rattle.cc_base.specs.Paths.{Path, In}
 use Rattle.cc_model.specs.CheckedProgram.{core_of}
 use Rattle.cc_model.specs.Listing.{Item, spent_item, WasRun, is_run}
@@ -18,13 +19,13 @@ use Rattle.search_walks.specs.declared.log.WalkSummary.{WalkSummary}
 use Rattle.search_walks.specs.declared.runs.Made.{Made}
 use Rattle.search_walks.specs.Counted.{Nothing, Counted, Took}
 use Rattle.search_walks.specs.Logged.{Logged, Finished, FinishedSome, Walked, WalkedSome, Along}
-use Rattle.search_walks.specs.Made.{within_of}
+use Rattle.search_base.specs.Readable.{CanBeRead}
+use Rattle.search_base.specs.Setting.{within_of, Setting, layer_of, base_of}
 use Rattle.search_walks.specs.Output.{Begins, WalkedWhole, WalkedPart}
-use Rattle.search_walks.specs.Setting.{Setting, layer_of, base_of}
 use Rattle.search_walks.specs.Steps.{Followed, nothing_came, one_came, Started, TriedSome, nothing_yet, some_of_spent, some_of_run, base_item}
-use Rattle.search_walks.specs.Terms.{seen_term, InOrder}
+use Rattle.search_base.specs.Terms.{seen_term, InOrder}
 use Rattle.search_walks.specs.Walks.{Candidate, Gives, IsItemOf, IsSpent, prediction, test_of}
-use Rattle.search_walks.proofs.ItemLaws.{lines_more, part_more, whole_part, count_append, or_false, fault_append, ran_left, ran_right, ran_either, no_run, spent_no_run, IsOfRun, test_run, item_run, real_more, took_below}
+use Rattle.search_walks.proofs.ItemLaws.{lines_more, part_more, whole_part, count_append, or_false, fault_append, ran_left, ran_right, ran_either, no_run, spent_no_run, IsOfRun, test_run, item_run, real_more, few_more, took_below}
 
 module _ (s : Setting) where
   logged_none : (l : Log) → Nothing (length s.checked.sites) l → Logged s [] l
@@ -36,10 +37,11 @@ module _ (s : Setting) where
     size = n.size;
     covered = λ a. ((λ e. absurd (n.covered a e)), (λ w. absurd (no_run w.0 w.1)));
     real = λ t w. absurd (no_run t w);
+    few = λ x i. absurd i;
   }
 
   -- one more run
-  module _ (items : List Item) (x : Item) (i : Input) (l m : Log) (b : Bool) (r : IsOfRun x (test_of s i)) (w : within_of s i) (h : Logged s items l) (c : Counted s i (((layer_of s).runs).end i) l m b) where
+  module _ (items : List Item) (x : Item) (i : Input) (l m : Log) (b : Bool) (r : IsOfRun x (test_of s i)) (can : CanBeRead x) (w : within_of s i) (h : Logged s items l) (c : Counted s i (((layer_of s).runs).end i) l m b) where
     logged_more : Logged s (items ++ x ∷ []) m
     logged_more = record {
       made = let e = c.made in let f = h.made in let k = count_append is_run items (x ∷ []) in let o = r.one in omega (arith, e, f, k, o);
@@ -67,16 +69,20 @@ module _ (s : Setting) where
         ]),
       );
       real = real_more s items x i r w h.real;
+      few = few_more items x h.few can;
     }
 
   pub logged_first : (old new : Option (List ℕ)) (l m : Log) (r : Made) → Nothing (length s.checked.sites) l → Started s old new l m r → Logged s (base_item s ∷ []) m
-  logged_first old new l m r n k = logged_more [] (base_item s) (base_of s) l m k.is_new (test_run (test_of s (base_of s))) (subst (within_of s) k.input (k.run).within) (logged_none l n) k.counted
+  logged_first old new l m r n k = logged_more [] (base_item s) (base_of s) l m k.is_new (test_run (test_of s (base_of s))) k.few (subst (within_of s) k.input (k.run).within) (logged_none l n) k.counted
 
   pub logged_run : (items : List Item) (i : Input) (p : Path) (old new : Option (List ℕ)) (l m : Log) (t : Tried) → Logged s items l → (f : Followed s i p old new l m t) → Logged s (items ++ f.item ∷ []) m
-  logged_run items i p old new l m t h f = logged_more items f.item i l m t.is_new (item_run s i p f.item f.is_item) (subst (within_of s) f.input (f.run).within) h f.counted
+  logged_run items i p old new l m t h f = logged_more items f.item i l m t.is_new (item_run s i p f.item f.is_item) f.few (subst (within_of s) f.input (f.run).within) h f.counted
 
-  pub logged_spent : (items : List Item) (p : Path) (l : Log) → Logged s items l → Logged s (items ++ spent_item p ∷ []) l
-  logged_spent items p l h = record {
+  spent_real : (items : List Item) (p : Path) → ((t : Test) → WasRun t items → Real ((layer_of s).runs) t) → (t : Test) → WasRun t (items ++ spent_item p ∷ []) → Real ((layer_of s).runs) t
+  spent_real items p h t k = elim (ran_either t items (spent_item p ∷ []) k) [ inl v ↦ h t v | inr v ↦ absurd (spent_no_run t p v) ]
+
+  pub logged_spent : (items : List Item) (p : Path) (l : Log) → All HasByte p → Logged s items l → Logged s (items ++ spent_item p ∷ []) l
+  logged_spent items p l b h = record {
     made = let f = h.made in let k = count_append is_run items (spent_item p ∷ []) in omega (arith, f, k);
     fault = h.fault ∙ or_false (has_fault items) ∙ sym (fault_append items (spent_item p ∷ []));
     terms = λ y. (
@@ -89,7 +95,8 @@ module _ (s : Setting) where
       (λ j. let f = (h.covered a).0 j in (f.0, ran_left f.0 items (spent_item p ∷ []) f.1, f.2)),
       (λ f. elim (ran_either f.0 items (spent_item p ∷ []) f.1) [ inl v ↦ (h.covered a).1 (f.0, v, f.2) | inr v ↦ absurd (spent_no_run f.0 p v) ]),
     );
-    real = λ t k. elim (ran_either t items (spent_item p ∷ []) k) [ inl v ↦ h.real t v | inr v ↦ absurd (spent_no_run t p v) ];
+    real = spent_real items p h.real;
+    few = few_more items (spent_item p) h.few b;
   }
 
   base_within : InRange s.limits → within_of s (base_of s)
@@ -113,12 +120,12 @@ module _ (s : Setting) where
     pub along_none : (new : Option (List ℕ)) (l : Log) → Along s From Here old new l → ((cuts : Bool) (rest : List Item) → There cuts rest → Here cuts rest) → Along s From There old new l
     along_none new l a f = record { items = a.items; written = a.written; logged = a.logged; on = λ cuts rest h. a.on cuts rest (f cuts rest h) }
 
-    pub along_spent : (mid new : Option (List ℕ)) (l : Log) (p : Path) → Along s From Here old mid l → new ≡ appended mid (item_line (spent_item p)) →
+    pub along_spent : (mid new : Option (List ℕ)) (l : Log) (p : Path) → All HasByte p → Along s From Here old mid l → new ≡ appended mid (item_line (spent_item p)) →
         ((cuts : Bool) (rest : List Item) → There cuts rest → Here cuts (spent_item p ∷ rest)) → Along s From There old new l
-    along_spent mid new l p a w f = record {
+    along_spent mid new l p b a w f = record {
       items = a.items ++ spent_item p ∷ [];
       written = lines_more old mid new a.items (spent_item p) a.written w;
-      logged = logged_spent a.items p l a.logged;
+      logged = logged_spent a.items p l b a.logged;
       on = λ cuts rest h. subst (Begins s (From cuts)) (sym (append_assoc a.items (spent_item p ∷ []) rest)) (a.on cuts (spent_item p ∷ rest) (f cuts rest h));
     }
 
@@ -159,7 +166,7 @@ module _ (s : Setting) where
       items = a.items ++ spent_item (prediction s u c) ∷ [];
       written = part_more old mid new a.items (spent_item (prediction s u c)) a.written w;
       walked = a.on true (spent_item (prediction s u c) ∷ []) (hs k);
-      real = (logged_spent a.items (prediction s u c) l a.logged).real;
+      real = spent_real a.items (prediction s u c) (a.logged).real;
     }
     along_some u c mid new l a (some_of_run i g (nothing_came e)) h hs hr = along_cut mid new l a e h
     along_some u c mid new l a (some_of_run i g (one_came x k w)) h hs hr = record {
@@ -189,6 +196,9 @@ module _ (s : Setting) where
       real = (k.logged).real;
       are_terms = f.are_terms;
       sums = f.sums;
+      few = (k.logged).few;
+      narrow = f.narrow;
+      numbers = f.numbers;
     }
 
     -- cut off in the walk, in its terms, and before it

@@ -7,8 +7,8 @@ use Rattle.cc_model.specs.declared.checked.Checked.{Checked}
 use Rattle.search_walks.specs.declared.candidates.Candidate.{Candidate as Offer}
 use Rattle.search_walks.specs.Distance.{entry, IsDecisionSite}
 use Rattle.search_walks.specs.Nearest.{IsLeast, lesser, nearer, IsAtSite, IsAtToken, IsAtOffer, IsAtPlace, IsFirstUpTo, IsFirst}
-use Rattle.search_walks.specs.Setting.{side_of}
-use Rattle.search_walks.specs.Terms.{token_in}
+use Rattle.search_walks.specs.Deciding.{side_of}
+use Rattle.search_base.specs.Terms.{token_in}
 
 -- the least of two, where S holds of both and of nothing else
 module _ (Q R S : ℕ → Type 0) (f : (d : ℕ) → Q d ⊎ R d → S d) (g : (d : ℕ) → S d → Q d ⊎ R d) where

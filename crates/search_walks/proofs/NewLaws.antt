@@ -14,7 +14,8 @@ use Rattle.cc_model.specs.Meaning.{Entry}
 use Rattle.cc_model.specs.Runs.{run_of}
 use Rattle.search_walks.specs.Course.{Covers}
 use Rattle.search_walks.specs.Distance.{entry}
-use Rattle.search_walks.specs.Setting.{Setting, Decides, Takes, side_of}
+use Rattle.search_base.specs.Setting.{Setting}
+use Rattle.search_walks.specs.Deciding.{Decides, Takes, side_of}
 use Rattle.search_walks.specs.Walks.{IsNew}
 
 abbrev Decided : Type 0 → Type 0
@@ -129,7 +130,7 @@ module _ (s : Setting) (u : Input) where
             there : entry n side < length covered
             there = let h = entry_below n (length s.checked.sites) side (site_below t) in let z = c.all in omega (arith, h, z)
 
-    pub new_or : (limit : ℕ) (cuts : Bool) → IsNew s limit cuts u ran ⊎ (IsNew s limit cuts u ran → ⊥)
+    pub new_or : (limit : ℕ) (cuts : Bool) → IsNew s u ran ⊎ (IsNew s u ran → ⊥)
     new_or limit cuts = by (below (λ n. Newly n false ⊎ Newly n true) (λ n. both n (newly_or n false) (newly_or n true)) (length s.checked.sites))
       where
         both : (n : ℕ) → Decided (Newly n false) → Decided (Newly n true) → Decided (Newly n false ⊎ Newly n true)
@@ -137,7 +138,7 @@ module _ (s : Setting) (u : Input) where
         both n (inr a) (inl b) = inl (inr b)
         both n (inr a) (inr b) = inr (λ w. elim w [ inl x ↦ a x | inr x ↦ b x ])
 
-        one : (n : ℕ) → Newly n false ⊎ Newly n true → IsNew s limit cuts u ran
+        one : (n : ℕ) → Newly n false ⊎ Newly n true → IsNew s u ran
         one n (inl w) = (n, false, w.0, w.1)
         one n (inr w) = (n, true, w.0, w.1)
 
@@ -148,6 +149,6 @@ module _ (s : Setting) (u : Input) where
         of_side n false w = inl w
         of_side n true w = inr w
 
-        by : Decided ((n : ℕ) × (n < length s.checked.sites) × (Newly n false ⊎ Newly n true)) → IsNew s limit cuts u ran ⊎ (IsNew s limit cuts u ran → ⊥)
+        by : Decided ((n : ℕ) × (n < length s.checked.sites) × (Newly n false ⊎ Newly n true)) → IsNew s u ran ⊎ (IsNew s u ran → ⊥)
         by (inl w) = inl (one w.0 w.2)
         by (inr n) = inr (λ w. n (w.0, site_below w.0 w.1 w.2, of_side w.0 w.1 (w.2, w.3)))

@@ -12,8 +12,8 @@ use Rattle.search_walks.specs.declared.runs.Made.{Made}
 use Rattle.search_walks.specs.Branching.{plain_of, IsOffered, Offering}
 use Rattle.search_walks.specs.Made.{RunOf}
 use Rattle.search_walks.specs.Offers.{offers_at, offers_from}
-use Rattle.search_walks.specs.Setting.{Setting, layer_of}
-use Rattle.search_walks.specs.Walks.{Candidate as Plain, at_event, candidates_from, candidates, path_of, without}
+use Rattle.search_base.specs.Setting.{Setting, layer_of, path_of}
+use Rattle.search_walks.specs.Walks.{Candidate as Plain, at_event, candidates_from, candidates, without}
 
 -- ---- lists
 

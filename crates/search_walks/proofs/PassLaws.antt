@@ -15,10 +15,10 @@ use Rattle.search_walks.specs.Draws.{draw, after_draw}
 use Rattle.search_walks.specs.Logged.{Along, Walked, WalkedSome}
 use Rattle.search_walks.specs.Made.{RunOf}
 use Rattle.search_walks.specs.Passing.{StandsAt, left_to_pass, DrawnAt, no_draw, own_drawn, other_drawn, FromStart, FromEvent, PassesTo, Passed}
-use Rattle.search_walks.specs.Setting.{Setting, layer_of, base_of}
+use Rattle.search_base.specs.Setting.{Setting, layer_of, base_of, path_of}
 use Rattle.search_walks.specs.Steps.{Started, TriedOne, TriedSome, no_input, past_budget, was_run}
-use Rattle.search_walks.specs.Walks.{AreOutcomes, Keeps, Passes, pass_full, last_pass, pass_cut_off, next_pass, pass_no_draw, pass_own_one, pass_never_one, pass_spent_one, pass_kept_one, pass_left_one, IsItemOf, kept, left, IsSpent, Gives, prediction, path_of, test_of}
-use Rattle.search_walks.proofs.PathLaws.{length_begins}
+use Rattle.search_walks.specs.Walks.{AreOutcomes, Keeps, Passes, pass_full, last_pass, pass_cut_off, next_pass, pass_no_draw, pass_own_one, pass_never_one, pass_spent_one, pass_kept_one, pass_left_one, IsItemOf, kept, left, IsSpent, Gives, prediction, test_of}
+use Rattle.search_base.proofs.PathLaws.{length_begins}
 use Rattle.search_walks.proofs.LoggedLaws.{along_first, along_none, along_spent, along_run, along_end, along_cut, along_some}
 
 module _ (s : Setting) (limit : ℕ) (start : Lcg) (before : Option (List ℕ)) where
@@ -56,9 +56,9 @@ module _ (s : Setting) (limit : ℕ) (start : Lcg) (before : Option (List ℕ)) 
           subst (λ x. PassesTo s limit start before passes u (suc k) h x new) (sym f) (subst (λ x. PassesTo s limit start before passes u (suc k) h l x) (sym e)
           (along_none s (FromStart s limit start) Here (FromEvent s limit passes u (suc k) h l.made) before mid l a
           (λ cuts items w. pass_never_one u k passes g l.made items own o os room are at other n (subst (λ x. Passes s limit cuts u (suc k) passes x l.made items) word w))))
-      goes_none new m (past_budget n e f) =
+      goes_none new m (past_budget n b e f) =
           subst (λ x. PassesTo s limit start before passes u (suc k) h x new) (sym f)
-          (along_spent s (FromStart s limit start) Here (FromEvent s limit passes u (suc k) h l.made) before mid new l (prediction s u (k, o)) a e
+          (along_spent s (FromStart s limit start) Here (FromEvent s limit passes u (suc k) h l.made) before mid new l (prediction s u (k, o)) b a e
           (λ cuts items w. pass_spent_one u k passes g l.made items own o os room are at other n (subst (λ x. Passes s limit cuts u (suc k) passes x l.made items) word w)))
 
       -- a run that keeps its prediction, and one that leaves it

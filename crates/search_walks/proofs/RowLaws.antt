@@ -5,21 +5,8 @@ use Rattle.std.proofs.Math.ListN.{length-set}
 use Rattle.std.proofs.lemmas.List.{length-append}
 use Rattle.std.proofs.lemmas.Bool.{cases_lt, cases_eq}
 use Rattle.cc_base.specs.Paths.{In}
+use Rattle.search_base.proofs.PathLaws.{in_left, in_right, in_either}
 use Rattle.search_walks.specs.Rows.{row, Has, Grows, IsOne, IsAny}
-
-pub in_left : {A : Type 0} → (x : A) (l m : List A) → In x l → In x (l ++ m)
-in_left x [] m i = absurd i
-in_left x (y ∷ l) m (inl e) = inl e
-in_left x (y ∷ l) m (inr i) = inr (in_left x l m i)
-
-pub in_right : {A : Type 0} → (x : A) (l m : List A) → In x m → In x (l ++ m)
-in_right x [] m i = i
-in_right x (y ∷ l) m i = inr (in_right x l m i)
-
-pub in_either : {A : Type 0} → (x : A) (l m : List A) → In x (l ++ m) → In x l ⊎ In x m
-in_either x [] m i = inr i
-in_either x (y ∷ l) m (inl e) = inl (inl e)
-in_either x (y ∷ l) m (inr i) = elim (in_either x l m i) [ inl j ↦ inl (inr j) | inr j ↦ inr j ]
 
 -- one more in the front of a list
 pub in_more : {A : Type 0} → (l : List A) (n : ℕ) (x z : A) → n < length l → x ≡ get_or l n x → In z (take (n + 1) l) → In z (take n l) ⊎ (z ≡ x)

@@ -11,7 +11,8 @@ use Rattle.cc_model.specs.declared.checked.Checked.{Checked}
 use Rattle.search_walks.specs.Distance.{IsDecisionSite}
 use Rattle.search_walks.specs.Rows.{row, Has}
 use Rattle.search_walks.specs.Layers.{one_if_not, one_if_none, IsPassed, HasDistance, Opens, Gives, DecisionsOf, nones, unpassed, IsUncovered, Starts}
-use Rattle.search_walks.proofs.RowLaws.{in_left, in_right, in_either, in_push, in_last, in_more, in_next, in_front, get_any}
+use Rattle.search_base.proofs.PathLaws.{in_left, in_right, in_either}
+use Rattle.search_walks.proofs.RowLaws.{in_push, in_last, in_more, in_next, in_front, get_any}
 
 pub get_same : {A : Type 0} → (l : List A) (i : ℕ) (x : A) → i < length l → slice_get (set l i x) i ≡ Some x
 get_same [] i x h = absurd (omega (arith, h))

@@ -5,16 +5,19 @@ use Rattle.cc_base.specs.declared.inputs.Test.{Test}
 use Rattle.cc_base.specs.Paths.{In, Pairwise}
 use Rattle.cc_model.specs.Listing.{Item, WasRun}
 use Rattle.cc_model.specs.Report.{term_lines}
+use Rattle.cc_model.specs.Tested.{Term}
 use Rattle.cc_outside.specs.Told.{appended, WritesPart}
 use Rattle.search_walks.specs.declared.log.Log.{Log}
 use Rattle.search_walks.specs.declared.log.WalkSummary.{WalkSummary}
-use Rattle.search_walks.specs.declared.terms.FoundTerm.{FoundTerm}
+use Rattle.search_base.specs.declared.terms.FoundTerm.{FoundTerm}
 use Rattle.search_walks.specs.Counted.{Took}
 use Rattle.search_walks.specs.Distance.{entry}
 use Rattle.search_walks.specs.Logged.{Logged, Finished, FinishedSome}
-use Rattle.search_walks.specs.Output.{AreTaken, decision_count}
-use Rattle.search_walks.specs.Setting.{Setting, Takes}
-use Rattle.search_walks.specs.Terms.{seen_term}
+use Rattle.search_walks.specs.Output.{AreTaken, HasNumbers, decision_count}
+use Rattle.search_base.specs.Readable.{IsNarrow}
+use Rattle.search_base.specs.Setting.{Setting}
+use Rattle.search_walks.specs.Deciding.{Takes}
+use Rattle.search_base.specs.Terms.{seen_term}
 use Rattle.search_walks.proofs.ItemLaws.{whole_part}
 
 -- ---- the outcome of an entry
@@ -117,8 +120,8 @@ module _ (s : Setting) (items : List Item) (log : Log) (h : Logged s items log) 
       back n side (t, w, k) = place_back (log.covered).items 0 (entry n side) n side ((h.covered (entry n side)).1 (t, w, record { site = n; side = side; number = refl; takes = k })) (more_zero (entry n side))
 
   pub finished : (old new : Option (List ℕ)) (w : WalkSummary) (l : List FoundTerm) (marks : List Bool) → l ≡ (log.terms).items → new ≡ appended old (term_lines (map seen_term l)) → w.runs ≡ log.made → marks ≡ (log.covered).items → w.covered ≡ count_by (λ b. b) marks →
-      w.outcomes ≡ 2 * decision_count s.checked.sites → w.fault ≡ log.fault → Finished s items old new w
-  finished old new w l marks e written runs f covered outcomes fault = record {
+      w.outcomes ≡ 2 * decision_count s.checked.sites → w.fault ≡ log.fault → ((e : Term) → In e (map seen_term (log.terms).items) → IsNarrow e) → HasNumbers w → Finished s items old new w
+  finished old new w l marks e written runs f covered outcomes fault narrow numbers = record {
     terms = map seen_term (log.terms).items;
     written = written ∙ ap (λ m. appended old (term_lines (map seen_term m))) e;
     are_terms = record { ascend = h.order; all = h.terms };
@@ -130,6 +133,8 @@ module _ (s : Setting) (items : List Item) (log : Log) (h : Logged s items log) 
       outcomes = outcomes;
       fault = fault ∙ h.fault;
     };
+    narrow = narrow;
+    numbers = numbers;
   }
 
 pub finished_some : (old new : Option (List ℕ)) (terms : List FoundTerm) → WritesPart old new (term_lines (map seen_term terms)) → FinishedSome old new

@@ -17,8 +17,9 @@ use Rattle.search_walks.specs.Covering.{Marks, IsAmong, IsTakenAt, IsTakenUpTo}
 use Rattle.search_walks.specs.Counted.{Took}
 use Rattle.search_walks.specs.Distance.{entry, IsDecisionSite}
 use Rattle.search_walks.specs.Made.{RunOf}
-use Rattle.search_walks.specs.Setting.{Setting, Decides, Takes, side_of}
-use Rattle.search_walks.specs.Terms.{token_in}
+use Rattle.search_base.specs.Setting.{Setting}
+use Rattle.search_walks.specs.Deciding.{Decides, Takes, side_of}
+use Rattle.search_base.specs.Terms.{token_in}
 use Rattle.search_walks.proofs.CoverLaws.{marks_by}
 
 -- an event beside its entry

@@ -1,5 +1,5 @@
 -- What comes of an alternative of a run.
-use Rattle.std.proofs.Common.{◌≡◌, ℕ, zero, suc, ◌<◌, List, [], ◌∷◌, length, map, take, Option, Some, None, All, slice_get, refl, sym, ap, ◌∙◌, subst, arith}
+use Rattle.std.proofs.Common.{◌≡◌, ℕ, zero, suc, ◌<◌, ◌^◌, List, [], ◌∷◌, length, map, take, Option, Some, None, All, slice_get, refl, sym, ap, ◌∙◌, subst, arith}
 use Rattle.std.proofs.lemmas.List.Elements.{All-nil, All-cons, All-append, All-take}
 use Rattle.cc_base.specs.declared.inputs.Input.{Input}
 use Rattle.cc_base.specs.declared.outcomes.Outcome.{Outcome}
@@ -21,7 +21,8 @@ use Rattle.sym_run.specs.Traces.{outcome_at, others_at}
 use Rattle.search_walks.specs.declared.log.Log.{Log}
 use Rattle.search_walks.specs.declared.log.Tried.{Tried}
 use Rattle.search_walks.specs.Made.{RunOf}
-use Rattle.search_walks.specs.Setting.{Setting, layer_of}
+use Rattle.search_base.proofs.PathLaws.{map_long}
+use Rattle.search_base.specs.Setting.{Setting, layer_of}
 use Rattle.search_walks.specs.Steps.{Followed, FollowedSome, TriedOne, no_input, past_budget, was_run, TriedSome, some_of_spent, some_of_run}
 use Rattle.search_walks.specs.Walks.{Gives, IsNever, IsSpent, prediction}
 
@@ -43,14 +44,13 @@ some_at [] k h = absurd (omega (arith, h))
 some_at (x ∷ l) zero h = (x, refl)
 some_at (x ∷ l) (suc k) h = some_at l k (omega (arith, h))
 
-map_long : {A B : Type 0} → (f : A → B) (l : List A) → length (map f l) ≡ length l
-map_long f [] = refl
-map_long f (x ∷ l) = ap suc (map_long f l)
-
 module _ (s : Setting) (t : Trace) (p : Path) (run : RunOf s t p) (k : ℕ) (o : Outcome) where
   pub came : (v w : Turned) → w ≡ v → AnswersAt linear (core_of s.checked) s.limits s.budget t.input (turned_at (core_of s.checked) s.limits t.input k o) (answer_of w)
       → IsTurnedIf (core_of s.checked) s.limits t.input k o w → Came s t.input (prediction s t.input (k, o)) v
   came v w e h g = subst (Came s t.input (prediction s t.input (k, o))) e (came_at s t.input k o w h g)
+
+  pub came_few : (i : Input) (w : Turned) → w ≡ turn.Turned i → IsTurnedIf (core_of s.checked) s.limits t.input k o w → length i.cells < 10 ^ 18
+  came_few i w e g = (subst (IsTurnedIf (core_of s.checked) s.limits t.input k o) e g).few
 
   pub is_prediction : (w : Path) → w ≡ next (take k p) o → w ≡ prediction s t.input (k, o)
   is_prediction w e = e ∙ ap (λ (q : Path). next (take k q) o) run.path
@@ -68,8 +68,8 @@ module _ (s : Setting) (t : Trace) (p : Path) (run : RunOf s t p) (k : ℕ) (o :
     pub tried_never : (l m : Log) → IsNever s t.input (prediction s t.input (k, o)) → new ≡ old → m ≡ l → TriedOne s t.input (k, o) old new l m None
     tried_never l m n f g = no_input n f g
 
-    pub tried_spent : (bytes wrote : List ℕ) (l m : Log) → IsSpent s t.input (prediction s t.input (k, o)) → bytes ≡ item_line (spent_item w) → wrote ≡ bytes → new ≡ appended old wrote → m ≡ l → TriedOne s t.input (k, o) old new l m None
-    tried_spent bytes wrote l m n f g v q = past_budget n (v ∙ ap (appended old) (g ∙ f ∙ ap (λ z. item_line (spent_item z)) (is_prediction w e))) q
+    pub tried_spent : (bytes wrote : List ℕ) (l m : Log) → IsSpent s t.input (prediction s t.input (k, o)) → All HasByte w → bytes ≡ item_line (spent_item w) → wrote ≡ bytes → new ≡ appended old wrote → m ≡ l → TriedOne s t.input (k, o) old new l m None
+    tried_spent bytes wrote l m n b f g v q = past_budget n (subst (All HasByte) (is_prediction w e) b) (v ∙ ap (appended old) (g ∙ f ∙ ap (λ z. item_line (spent_item z)) (is_prediction w e))) q
 
     pub spent_some : (bytes wrote : List ℕ) → IsSpent s t.input (prediction s t.input (k, o)) → bytes ≡ item_line (spent_item w) → wrote ≡ bytes → WritesPart old new wrote → TriedSome s t.input (k, o) old new
     spent_some bytes wrote n f g v = some_of_spent n (subst (WritesPart old new) (g ∙ f ∙ ap (λ z. item_line (spent_item z)) (is_prediction w e)) v)

@@ -1,12 +1,12 @@
 -- A walk as a whole, at the end of its call.
 use Rattle.std.proofs.Common.{ℕ, Bool, true, false, List, Option, Result, Ok, Err, IfOk, OnErr}
 use Rattle.cc_model.specs.Listing.{Item}
-use Rattle.search_walks.specs.declared.fault.SearchFault.{SearchFault}
+use Rattle.search_base.specs.declared.fault.SearchFault.{SearchFault}
 use Rattle.search_walks.specs.declared.log.Log.{Log}
 use Rattle.search_walks.specs.declared.log.WalkSummary.{WalkSummary}
 use Rattle.search_walks.specs.Logged.{Logged, Finished, FinishedSome, Walked}
 use Rattle.search_walks.specs.Output.{WalkedWhole, WalkedPart}
-use Rattle.search_walks.specs.Setting.{Setting}
+use Rattle.search_base.specs.Setting.{Setting}
 use Rattle.search_walks.proofs.LoggedLaws.{whole, part_of_terms}
 
 module _ (s : Setting) (W : Bool → List Item → Type 0) (old mid new : Option (List ℕ)) (l : Log) where

@@ -9,7 +9,7 @@ use Rattle.search_walks.specs.declared.log.Log.{Log}
 use Rattle.search_walks.specs.declared.runs.Made.{Made}
 use Rattle.search_walks.specs.Logged.{Along}
 use Rattle.search_walks.specs.Made.{RunOf}
-use Rattle.search_walks.specs.Setting.{Setting, layer_of, base_of}
+use Rattle.search_base.specs.Setting.{Setting, layer_of, base_of}
 use Rattle.search_walks.specs.Walks.{Candidate as Plain, candidates, Branches}
 
 abbrev pub plain_of : Candidate → Plain

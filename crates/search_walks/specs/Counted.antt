@@ -8,8 +8,9 @@ use Rattle.cc_model.specs.Tested.{Term}
 use Rattle.search_walks.specs.declared.log.Log.{Log}
 use Rattle.search_walks.specs.Covering.{Marks}
 use Rattle.search_walks.specs.Distance.{entry}
-use Rattle.search_walks.specs.Setting.{Setting, layer_of, Takes}
-use Rattle.search_walks.specs.Terms.{seen_term, InOrder}
+use Rattle.search_base.specs.Setting.{Setting, layer_of}
+use Rattle.search_walks.specs.Deciding.{Takes}
+use Rattle.search_base.specs.Terms.{seen_term, InOrder}
 
 -- nothing was counted, with two outcomes for each of so many sites
 pub record Nothing (sites : ℕ) (log : Log) : Type 0 where

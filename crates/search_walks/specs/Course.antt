@@ -14,7 +14,8 @@ use Rattle.search_walks.specs.Distance.{entry, AreDistances}
 use Rattle.search_walks.specs.Logged.{Along, Walked}
 use Rattle.search_walks.specs.Made.{RunOf}
 use Rattle.search_walks.specs.Offers.{offers_from}
-use Rattle.search_walks.specs.Setting.{Setting, Takes, base_of}
+use Rattle.search_base.specs.Setting.{Setting, base_of}
+use Rattle.search_walks.specs.Deciding.{Takes}
 use Rattle.search_walks.specs.Walks.{Candidate, candidates, Directed}
 
 -- an offer as an alternative

@@ -4,8 +4,8 @@ use Rattle.cc_model.specs.declared.checked.Checked.{Checked}
 use Rattle.sym_run.specs.declared.trace.Event.{Event}
 use Rattle.sym_run.specs.Traces.{outcome_at}
 use Rattle.search_walks.specs.Distance.{entry, IsDecisionSite}
-use Rattle.search_walks.specs.Setting.{side_of}
-use Rattle.search_walks.specs.Terms.{token_in}
+use Rattle.search_walks.specs.Deciding.{side_of}
+use Rattle.search_base.specs.Terms.{token_in}
 
 -- those of which Q holds are covered, too; one of them wasn't
 pub record Marks (old new : List Bool) (Q : ℕ → Type 0) (is_new : Bool) : Type 0 where

@@ -1,13 +1,11 @@
 pub mod Draws
 pub mod Distance
-pub mod Setting
+pub mod Deciding
 pub mod Walks
 pub mod Output
 pub mod Rows
 pub mod Backwards
 pub mod Layers
-pub mod Inserting
-pub mod Terms
 pub mod Offers
 pub mod Task
 pub mod Made

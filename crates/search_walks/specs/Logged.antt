@@ -9,12 +9,13 @@ use Rattle.cc_outside.specs.Told.{appended, WritesPart}
 use Rattle.search_walks.specs.declared.log.Log.{Log}
 use Rattle.search_walks.specs.declared.log.WalkSummary.{WalkSummary}
 use Rattle.search_walks.specs.Counted.{Took}
-use Rattle.search_walks.specs.Output.{AreTerms, Sums, Begins}
-use Rattle.search_walks.specs.Setting.{Setting, layer_of}
-use Rattle.search_walks.specs.Terms.{seen_term, InOrder}
+use Rattle.search_walks.specs.Output.{AreTerms, Sums, HasNumbers, Begins}
+use Rattle.search_base.specs.Readable.{CanBeRead, IsNarrow}
+use Rattle.search_base.specs.Setting.{Setting, layer_of}
+use Rattle.search_base.specs.Terms.{seen_term, InOrder}
 
 -- the log holds the runs among the items, whether one is a fault, their terms, and the outcomes of decisions that they took; each
--- of their tests is real
+-- of their tests is real, and each can be read again from its line
 pub record Logged (s : Setting) (items : List Item) (log : Log) : Type 0 where
   pub made : log.made ≡ count_by is_run items
   pub fault : log.fault ≡ has_fault items
@@ -23,6 +24,7 @@ pub record Logged (s : Setting) (items : List Item) (log : Log) : Type 0 where
   pub size : length (log.covered).items ≡ 2 * length s.checked.sites
   pub covered : (a : ℕ) → (slice_get (log.covered).items a ≡ Some true) ↔ ((t : Test) × WasRun t items × Took s t.input a)
   pub real : (t : Test) → WasRun t items → Real ((layer_of s).runs) t
+  pub few : (x : Item) → In x items → CanBeRead x
 
 -- the lines of the terms were written behind those of the items, and the items summed up
 pub record Finished (s : Setting) (items : List Item) (old new : Option (List ℕ)) (w : WalkSummary) : Type 0 where
@@ -30,6 +32,8 @@ pub record Finished (s : Setting) (items : List Item) (old new : Option (List �
   pub written : new ≡ appended old (term_lines terms)
   pub are_terms : AreTerms s items terms
   pub sums : Sums s items w
+  pub narrow : (e : Term) → In e terms → IsNarrow e
+  pub numbers : HasNumbers w
 
 -- a first part of the lines of the terms was written
 pub record FinishedSome (old new : Option (List ℕ)) : Type 0 where

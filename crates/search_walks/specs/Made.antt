@@ -1,20 +1,18 @@
 -- A run that a walk made.
-use Rattle.std.specs.Prelude.{ℕ, ◌≡◌, ◌≤◌, List, length, map, Some, slice_get, All}
+use Rattle.std.specs.Prelude.{ℕ, ◌≡◌, ◌<◌, ◌≤◌, ◌^◌, List, length, map, Some, slice_get, All}
 use Rattle.cc_base.specs.declared.inputs.Input.{Input}
 use Rattle.cc_base.specs.Outcomes.{HasByte}
 use Rattle.cc_base.specs.Paths.{Path}
 use Rattle.cc_model.specs.CheckedProgram.{core_of}
 use Rattle.cc_model.specs.Runs.{run_of}
+use Rattle.report_words.specs.Words.{HasLine}
 use Rattle.sym_run.specs.declared.trace.Event.{Event}
 use Rattle.sym_run.specs.declared.trace.Trace.{Trace}
 use Rattle.sym_run.specs.Traces.{IsTrace, ArePlain, OffersFew, outcome_at, others_at}
-use Rattle.search_walks.specs.Setting.{Setting, layer_of}
-use Rattle.search_walks.specs.Terms.{found_at}
+use Rattle.search_base.specs.Setting.{Setting, layer_of, within_of}
+use Rattle.search_base.specs.Terms.{found_at}
 
-abbrev pub within_of : Setting → Input → Type 0
-within_of s i = ((layer_of s).runs).IsWithin i
-
--- the trace of a run within the bounds, with its path
+-- the trace of a run within the bounds, with its path; its test can be read again from its line
 pub record RunOf (s : Setting) (t : Trace) (p : Path) : Type 0 where
   pub within : within_of s t.input
   pub is_trace : IsTrace s.checked s.limits t.input t
@@ -27,3 +25,5 @@ pub record RunOf (s : Setting) (t : Trace) (p : Path) : Type 0 where
   pub terms : map (found_at s.checked) t.terms ≡ (layer_of s).terms t.input
   pub short : length t.events ≤ 1024
   pub bytes : All HasByte p
+  pub cells : length (t.input).cells < 10 ^ 18
+  pub line : HasLine t.end

@@ -3,8 +3,8 @@ use Rattle.std.specs.Prelude.{◌≡◌, ◌<◌, ◌≤◌, ℕ, Bool, List, le
 use Rattle.cc_model.specs.declared.checked.Checked.{Checked}
 use Rattle.search_walks.specs.declared.candidates.Candidate.{Candidate as Offer}
 use Rattle.search_walks.specs.Distance.{entry, IsDecisionSite}
-use Rattle.search_walks.specs.Setting.{side_of}
-use Rattle.search_walks.specs.Terms.{token_in}
+use Rattle.search_walks.specs.Deciding.{side_of}
+use Rattle.search_base.specs.Terms.{token_in}
 
 -- the least number of which Q holds, or that there is none
 abbrev pub IsLeast : (ℕ → Type 0) → Option ℕ → Type 0

@@ -1,5 +1,5 @@
 -- What a walk as a whole owes.
-use Rattle.std.specs.Prelude.{ℕ, zero, suc, ◌+◌, ◌*◌, ◌≡◌, ◌↔◌, Bool, true, false, List, [], ◌∷◌, ◌++◌, length, codes, Option}
+use Rattle.std.specs.Prelude.{ℕ, zero, suc, ◌+◌, ◌*◌, ◌<◌, ◌≡◌, ◌↔◌, ◌^◌, Bool, true, false, List, [], ◌∷◌, ◌++◌, length, codes, Option}
 use Rattle.std.specs.Fmt.{decimal}
 use Rattle.cc_base.specs.declared.inputs.Input.{Input}
 use Rattle.cc_base.specs.declared.inputs.Test.{Test}
@@ -11,23 +11,18 @@ use Rattle.cc_model.specs.Listing.{Item, test_item, WasRun, count_by, is_run}
 use Rattle.cc_model.specs.Report.{newline, item_lines, term_lines, has_fault}
 use Rattle.cc_model.specs.Tested.{Term, Real}
 use Rattle.cc_outside.specs.Told.{appended, WritesPart}
-use Rattle.cc_outside.specs.Faults.{Rose}
 use Rattle.sym_run.specs.Traces.{outcome_at}
-use Rattle.search_walks.specs.declared.fault.SearchFault.{SearchFault}
-use Rattle.search_walks.specs.declared.fault.SearchFault.TheVariants as fault
 use Rattle.search_walks.specs.declared.runs.Made.{Made}
 use Rattle.search_walks.specs.declared.log.WalkSummary.{WalkSummary}
-use Rattle.search_walks.specs.Terms.{Comes}
-use Rattle.search_walks.specs.Setting.{Setting, layer_of, Takes}
-
--- why a walk is refused: the sink's faults rose where it is the sink
-abbrev pub SinkCause : ℕ → ℕ → SearchFault → Type 0
-SinkCause old new fault.Sink = Rose old new
-SinkCause old new fault.NoMemory = Unit {0}
+use Rattle.search_base.specs.Lines.{listed}
+use Rattle.search_base.specs.Readable.{CanBeRead, IsNarrow}
+use Rattle.search_base.specs.Setting.{Setting, layer_of}
+use Rattle.search_base.specs.Terms.{Comes}
+use Rattle.search_walks.specs.Deciding.{Takes}
 
 -- the test of a run that was made
 abbrev pub test_at : Made → Test
-test_at r = record { path = r.path; end = (r.trace).end; input = (r.trace).input }
+test_at r = listed r.trace r.path
 
 abbrev pub one_for : SiteKind → ℕ
 one_for Decision = 1
@@ -59,6 +54,12 @@ pub record Sums (s : Setting) (items : List Item) (w : WalkSummary) : Type 0 whe
   pub outcomes : w.outcomes ≡ 2 * decision_count s.checked.sites
   pub fault : w.fault ≡ has_fault items
 
+-- they have 64 bits
+pub record HasNumbers (w : WalkSummary) : Type 0 where
+  pub runs : w.runs < 2 ^ 64
+  pub covered : w.covered < 2 ^ 64
+  pub outcomes : w.outcomes < 2 ^ 64
+
 -- ended runs=R covered=C of M
 abbrev pub ended_line : WalkSummary → List ℕ
 ended_line w = codes "ended runs=" ++ decimal w.runs ++ codes " covered=" ++ decimal w.covered ++ codes " of " ++ decimal w.outcomes ++ newline
@@ -67,7 +68,8 @@ ended_line w = codes "ended runs=" ++ decimal w.runs ++ codes " covered=" ++ dec
 abbrev pub Begins : Setting → (List Item → Type 0) → List Item → Type 0
 Begins s Walk items = (l : List Item) × (items ≡ test_item (record { path = ((layer_of s).runs).path ((layer_of s).runs).base; end = ((layer_of s).runs).end ((layer_of s).runs).base; input = ((layer_of s).runs).base }) ∷ l) × Walk l
 
--- what was written are the lines of the walk's items, each of whose tests is real, and then those of their terms
+-- what was written are the lines of the walk's items, each of whose tests is real, and then those of their terms; each line can be
+-- read again
 pub record WalkedWhole (s : Setting) (Walk : List Item → Type 0) (old new : Option (List ℕ)) (w : WalkSummary) : Type 0 where
   pub items : List Item
   pub terms : List Term
@@ -76,6 +78,9 @@ pub record WalkedWhole (s : Setting) (Walk : List Item → Type 0) (old new : Op
   pub real : (t : Test) → WasRun t items → Real ((layer_of s).runs) t
   pub are_terms : AreTerms s items terms
   pub sums : Sums s items w
+  pub few : (x : Item) → In x items → CanBeRead x
+  pub narrow : (e : Term) → In e terms → IsNarrow e
+  pub numbers : HasNumbers w
 
 -- what was written is a first part of such lines, of a walk that is cut off
 pub record WalkedPart (s : Setting) (Walk : List Item → Type 0) (old new : Option (List ℕ)) : Type 0 where

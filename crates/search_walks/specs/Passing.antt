@@ -11,8 +11,8 @@ use Rattle.search_walks.specs.declared.runs.Made.{Made}
 use Rattle.search_walks.specs.Draws.{draw, after_draw}
 use Rattle.search_walks.specs.Logged.{Along}
 use Rattle.search_walks.specs.Made.{RunOf}
-use Rattle.search_walks.specs.Setting.{Setting, layer_of, base_of}
-use Rattle.search_walks.specs.Walks.{AreOutcomes, Passes, path_of}
+use Rattle.search_base.specs.Setting.{Setting, layer_of, base_of, path_of}
+use Rattle.search_walks.specs.Walks.{AreOutcomes, Passes}
 
 -- the run that a pass goes through
 abbrev pub current_of : Standing → Made → Made

@@ -10,7 +10,8 @@ use Rattle.rand_pcg.specs.Lcg.{Lcg}
 use Rattle.tac_lower.specs.declared.tac.Tac.{Tac}
 use Rattle.search_walks.specs.Distance.{entry, IsDistance}
 use Rattle.search_walks.specs.Draws.{draw, after_draw}
-use Rattle.search_walks.specs.Setting.{Setting, layer_of, Decides, Takes, side_of}
+use Rattle.search_base.specs.Setting.{Setting, layer_of, path_of}
+use Rattle.search_walks.specs.Deciding.{Decides, Takes, side_of}
 
 -- an alternative: the event's number, and the outcome
 abbrev pub Candidate : Type 0
@@ -21,20 +22,17 @@ abbrev pub without : {A : Type 0} → ℕ → List A → List A
 without i l = take i l ++ drop (suc i) l
 
 module _ (s : Setting) where
-  abbrev pub path_of : Input → Path
-  path_of u = ((layer_of s).runs).path u
-
   -- the test of a run on the input
   abbrev pub test_of : Input → Test
-  test_of i = record { path = path_of i; end = ((layer_of s).runs).end i; input = i }
+  test_of i = record { path = path_of s i; end = ((layer_of s).runs).end i; input = i }
 
   -- the prediction: the outcomes before the event, and the alternative
   abbrev pub prediction : Input → Candidate → Path
-  prediction u (k, o) = next (take k (path_of u)) o
+  prediction u (k, o) = next (take k (path_of s u)) o
 
   -- the run keeps its prediction
   abbrev pub Keeps : Input → Path → Type 0
-  Keeps i p = BeginsWith (path_of i) p
+  Keeps i p = BeginsWith (path_of s i) p
 
   -- the item of a run: a test where it keeps its prediction, else a stray
   pub data IsItemOf (i : Input) (p : Path) : Item → Type 0 where
@@ -63,13 +61,48 @@ module _ (s : Setting) where
 
   -- all of them
   abbrev pub candidates : Input → List Candidate
-  candidates u = candidates_from u 0 (path_of u)
+  candidates u = candidates_from u 0 (path_of s u)
 
   -- the outcomes of an event, its own and the alternatives, ascending
   pub record AreOutcomes (u : Input) (k : ℕ) (own : Outcome) (os : List Outcome) : Type 0 where
-    pub is_own : slice_get (path_of u) k ≡ Some own
+    pub is_own : slice_get (path_of s u) k ≡ Some own
     pub ascend : Ascend os
     pub all : (o : Outcome) → In o os ↔ ((o ≡ own) ⊎ In o ((layer_of s).others u k))
+
+  -- ---- what directs a walk by the flow of the code
+
+  -- the list holds for each outcome of each decision site whether one of the inputs' runs took it
+  pub record IsCovered (inputs : List Input) (covered : List Bool) : Type 0 where
+    pub each : (n : ℕ) (side b : Bool) → slice_get covered (entry n side) ≡ Some b → (b ≡ true) ↔ ((u : Input) × In u inputs × Takes s u n side)
+    pub all : length covered ≡ 2 * length s.checked.sites
+
+  -- the run takes an outcome of a decision that no run of the inputs took
+  abbrev pub IsNew : Input → List Input → Type 0
+  IsNew i inputs = (n : ℕ) × (side : Bool) × Takes s i n side × (((u : Input) × In u inputs × Takes s u n side) → ⊥)
+
+  module _ (t : Tac) where
+    -- the candidate at place j has this distance: it is the outcome of a decision
+    pub record IsFar (u : Input) (covered : List Bool) (c : Candidate) (d : ℕ) : Type 0 where
+      pub site : ℕ
+      pub side : Bool
+      pub decides : Decides s u c.0 site
+      pub outcome : c.1 ≡ side_of side
+      pub distance : IsDistance s.checked t covered site side (Some d)
+
+    -- the candidate of least finite distance, on a tie the first
+    pub record IsNearest (u : Input) (inputs : List Input) (cs : List Candidate) (j : ℕ) (c : Candidate) : Type 0 where
+      pub covered : List Bool
+      pub is_covered : IsCovered inputs covered
+      pub is : slice_get cs j ≡ Some c
+      pub d : ℕ
+      pub far : IsFar u covered c d
+      pub least : (i : ℕ) (x : Candidate) (e : ℕ) → slice_get cs i ≡ Some x → IsFar u covered x e → (d ≤ e) × (i < j → d < e)
+
+    -- no candidate has a finite distance
+    pub record HasNone (u : Input) (inputs : List Input) (cs : List Candidate) : Type 0 where
+      pub covered : List Bool
+      pub is_covered : IsCovered inputs covered
+      pub none : (i : ℕ) (x : Candidate) (e : ℕ) → slice_get cs i ≡ Some x → IsFar u covered x e → ⊥
 
   -- at most `limit` runs; where it may be cut off, a walk may end anywhere
   module _ (limit : ℕ) (cuts : Bool) where
@@ -93,11 +126,11 @@ module _ (s : Setting) where
 
     pub data Passes : Input → ℕ → ℕ → Lcg → ℕ → List Item → Type 0 where
       pass_full : (u : Input) (k passes : ℕ) (g : Lcg) → Passes u k passes g limit []
-      last_pass : (u : Input) (g : Lcg) (made : ℕ) → Passes u (length (path_of u)) 0 g made []
+      last_pass : (u : Input) (g : Lcg) (made : ℕ) → Passes u (length (path_of s u)) 0 g made []
       pass_cut_off : (u : Input) (k passes : ℕ) (g : Lcg) (made : ℕ) → cuts ≡ true → Passes u k passes g made []
       next_pass : (u : Input) (passes : ℕ) (g : Lcg) (made : ℕ) (l : List Item) → made < limit →
-          Passes ((layer_of s).runs).base 0 passes g made l → Passes u (length (path_of u)) (suc passes) g made l
-      pass_no_draw : (u : Input) (k passes : ℕ) (g : Lcg) (made : ℕ) (l : List Item) → made < limit → k < length (path_of u) →
+          Passes ((layer_of s).runs).base 0 passes g made l → Passes u (length (path_of s u)) (suc passes) g made l
+      pass_no_draw : (u : Input) (k passes : ℕ) (g : Lcg) (made : ℕ) (l : List Item) → made < limit → k < length (path_of s u) →
           (layer_of s).others u k ≡ [] → Passes u (suc k) passes g made l → Passes u k passes g made l
       pass_own_one : (u : Input) (k passes : ℕ) (g : Lcg) (made : ℕ) (l : List Item) (own : Outcome) (os : List Outcome) → made < limit →
           ((layer_of s).others u k ≡ [] → ⊥) → AreOutcomes u k own os → slice_get os (draw (length os) g) ≡ Some own →
@@ -118,52 +151,20 @@ module _ (s : Setting) where
 
     -- ---- control-flow directed
 
-    -- the list holds for each outcome of each decision site whether one of the inputs' runs took it
-    pub record IsCovered (inputs : List Input) (covered : List Bool) : Type 0 where
-      pub each : (n : ℕ) (side b : Bool) → slice_get covered (entry n side) ≡ Some b → (b ≡ true) ↔ ((u : Input) × In u inputs × Takes s u n side)
-      pub all : length covered ≡ 2 * length s.checked.sites
-
-    -- the run takes an outcome of a decision that no run of the inputs took
-    abbrev pub IsNew : Input → List Input → Type 0
-    IsNew i inputs = (n : ℕ) × (side : Bool) × Takes s i n side × (((u : Input) × In u inputs × Takes s u n side) → ⊥)
-
     module _ (t : Tac) where
-      -- the candidate at place j has this distance: it is the outcome of a decision
-      pub record IsFar (u : Input) (covered : List Bool) (c : Candidate) (d : ℕ) : Type 0 where
-        pub site : ℕ
-        pub side : Bool
-        pub decides : Decides s u c.0 site
-        pub outcome : c.1 ≡ side_of side
-        pub distance : IsDistance s.checked t covered site side (Some d)
-
-      -- the candidate of least finite distance, on a tie the first
-      pub record IsNearest (u : Input) (inputs : List Input) (cs : List Candidate) (j : ℕ) (c : Candidate) : Type 0 where
-        pub covered : List Bool
-        pub is_covered : IsCovered inputs covered
-        pub is : slice_get cs j ≡ Some c
-        pub d : ℕ
-        pub far : IsFar u covered c d
-        pub least : (i : ℕ) (x : Candidate) (e : ℕ) → slice_get cs i ≡ Some x → IsFar u covered x e → (d ≤ e) × (i < j → d < e)
-
-      -- no candidate has a finite distance
-      pub record HasNone (u : Input) (inputs : List Input) (cs : List Candidate) : Type 0 where
-        pub covered : List Bool
-        pub is_covered : IsCovered inputs covered
-        pub none : (i : ℕ) (x : Candidate) (e : ℕ) → slice_get cs i ≡ Some x → IsFar u covered x e → ⊥
-
       -- from the current run u, with its candidates that are left, and the inputs that were run
       pub data Directed : Input → List Candidate → List Input → ℕ → List Item → Type 0 where
         directed_full : (u : Input) (cs : List Candidate) (ran : List Input) → Directed u cs ran limit []
-        directed_none_near : (u : Input) (cs : List Candidate) (ran : List Input) (made : ℕ) → HasNone u ran cs → Directed u cs ran made []
+        directed_none_near : (u : Input) (cs : List Candidate) (ran : List Input) (made : ℕ) → HasNone t u ran cs → Directed u cs ran made []
         directed_cut_off : (u : Input) (cs : List Candidate) (ran : List Input) (made : ℕ) → cuts ≡ true → Directed u cs ran made []
         directed_never_one : (u : Input) (cs : List Candidate) (ran : List Input) (made : ℕ) (l : List Item) (j : ℕ) (c : Candidate) → made < limit →
-            IsNearest u ran cs j c → IsNever u (prediction u c) → Directed u (without j cs) ran made l → Directed u cs ran made l
+            IsNearest t u ran cs j c → IsNever u (prediction u c) → Directed u (without j cs) ran made l → Directed u cs ran made l
         directed_spent_one : (u : Input) (cs : List Candidate) (ran : List Input) (made : ℕ) (l : List Item) (j : ℕ) (c : Candidate) → made < limit →
-            IsNearest u ran cs j c → IsSpent u (prediction u c) → Directed u (without j cs) ran made l →
+            IsNearest t u ran cs j c → IsSpent u (prediction u c) → Directed u (without j cs) ran made l →
             Directed u cs ran made (spent_item (prediction u c) ∷ l)
         directed_new_one : (u : Input) (cs : List Candidate) (ran : List Input) (made : ℕ) (l : List Item) (j : ℕ) (c : Candidate) (i : Input) (x : Item) →
-            made < limit → IsNearest u ran cs j c → Gives u (prediction u c) i → IsItemOf i (prediction u c) x → IsNew i ran →
+            made < limit → IsNearest t u ran cs j c → Gives u (prediction u c) i → IsItemOf i (prediction u c) x → IsNew i ran →
             Directed i (candidates i) (i ∷ ran) (suc made) l → Directed u cs ran made (x ∷ l)
         directed_old_one : (u : Input) (cs : List Candidate) (ran : List Input) (made : ℕ) (l : List Item) (j : ℕ) (c : Candidate) (i : Input) (x : Item) →
-            made < limit → IsNearest u ran cs j c → Gives u (prediction u c) i → IsItemOf i (prediction u c) x → (IsNew i ran → ⊥) →
+            made < limit → IsNearest t u ran cs j c → Gives u (prediction u c) i → IsItemOf i (prediction u c) x → (IsNew i ran → ⊥) →
             Directed u (without j cs) (i ∷ ran) (suc made) l → Directed u cs ran made (x ∷ l)

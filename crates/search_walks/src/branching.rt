@@ -5,19 +5,19 @@ ghost use Rattle.rand_pcg.specs.Lcg.{Lcg};
 ghost use Rattle.search_walks.specs.Branching.{Offering, FromBase, CameTo, left_to_draw};
 ghost use Rattle.search_walks.specs.Counted.{Nothing};
 ghost use Rattle.search_walks.specs.Logged.{Walked, WalkedSome};
-ghost use Rattle.search_walks.specs.Output.{SinkCause};
+ghost use Rattle.search_base.specs.Lines.{SinkCause};
 ghost use Rattle.search_walks.specs.Task.{setting_of, Known};
-ghost use Rattle.search_walks.specs.Setting.{base_of};
+ghost use Rattle.search_base.specs.Setting.{base_of};
 ghost use Rattle.search_walks.specs.Walks.{candidates as candidates_at, Branches};
 
 use crate::candidates::{Candidate, candidates};
 use crate::draws::draw;
-use crate::fault::SearchFault;
 use crate::log::Log;
 use crate::runs::Made;
 use crate::task::Task;
 use cc_outside::Sink;
 use rand_pcg::Pcg32;
+use search_base::SearchFault;
 
 /// Whether one more run may be made.
 pub(crate) fn may_run(made: u32, limit: u32) -> bool

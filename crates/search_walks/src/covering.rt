@@ -2,13 +2,13 @@
 
 ghost use Rattle.std.specs.Prelude.{◌≡◌, ◌<◌, ◌*◌, ◌||◌, length};
 ghost use Rattle.search_walks.specs.Distance.{entry, IsDecisionSite};
-ghost use Rattle.search_walks.specs.Terms.{token_in};
+ghost use Rattle.search_base.specs.Terms.{token_in};
 ghost use Rattle.search_walks.specs.Covering.{Marks, IsAmong, IsTakenAt, IsTakenUpTo};
 
 use crate::candidates::{is_decision, is_decision_site};
-use crate::terms::{token_at, token_of};
 use cc_model::Checked;
 use cc_model::base::Outcome;
+use search_base::{either, token_at, token_of};
 use sym_run::Event;
 
 /// Covers an outcome; whether it wasn't covered.
@@ -50,13 +50,6 @@ fn mark_sites(covered: &mut Vec<bool>, checked: &Checked, token: u32, side: bool
         is_new = either(mark_site(covered, checked, token, site, side), is_new);
     }
     is_new
-}
-
-/// Whether one of them holds.
-pub(crate) fn either(a: bool, b: bool) -> bool
-    ensures { result ≡ a || b }
-{
-    a || b
 }
 
 /// Covers the outcome that an event took, where it is that of a decision; whether it wasn't covered.

@@ -8,22 +8,21 @@ ghost use Rattle.search_walks.specs.Distance.{entry};
 ghost use Rattle.search_walks.specs.Logged.{Walked, WalkedSome};
 ghost use Rattle.search_walks.specs.Made.{RunOf};
 ghost use Rattle.search_walks.specs.Nearest.{IsLeast, lesser, nearer, IsAtSite, IsAtToken, IsAtOffer, IsAtPlace, IsFirst};
-ghost use Rattle.search_walks.specs.Output.{SinkCause};
-ghost use Rattle.search_walks.specs.Setting.{base_of};
+ghost use Rattle.search_base.specs.Lines.{SinkCause};
+ghost use Rattle.search_base.specs.Setting.{base_of};
 ghost use Rattle.search_walks.specs.Task.{setting_of, Known};
 ghost use Rattle.search_walks.specs.Walks.{candidates as candidates_at, Directed};
 
 use crate::candidates::{Candidate, candidates, is_decision, is_decision_site};
 use crate::distance::distances_over;
-use crate::fault::SearchFault;
 use crate::flow::Flow;
 use crate::log::Log;
 use crate::runs::Made;
 use crate::task::Task;
-use crate::terms::{token_at, token_of};
 use cc_model::Checked;
 use cc_model::base::{NoMemory, Outcome};
 use cc_outside::Sink;
+use search_base::{SearchFault, token_at, token_of};
 
 /// The lesser of two distances.
 fn lesser(a: Option<u32>, b: Option<u32>) -> Option<u32>

@@ -1,32 +1,33 @@
 //! What a walk does at each step: it runs an input, or solves one, and lists what comes of it.
 
-ghost use Rattle.std.specs.Prelude.{◌≡◌, ◌<◌, ◌≤◌, ◌+◌, ◌*◌, true, false, List, length, All, IfOk, IfErr, OnErr, count_by};
+ghost use Rattle.std.specs.Prelude.{◌≡◌, ◌<◌, ◌≤◌, ◌+◌, ◌*◌, ◌^◌, true, false, List, length, All, IfOk, IfErr, OnErr, count_by};
 ghost use Rattle.cc_base.specs.Outcomes.{HasByte};
 ghost use Rattle.cc_base.specs.Paths.{BeginsWith, In};
 ghost use Rattle.cc_model.specs.Listing.{Item};
-ghost use Rattle.cc_model.specs.Report.{is_fault, item_line};
+ghost use Rattle.cc_model.specs.Report.{item_line};
 ghost use Rattle.cc_outside.specs.Told.{WritesPart};
 ghost use Rattle.search_walks.specs.Counted.{Counted, Nothing};
-ghost use Rattle.search_walks.specs.Made.{RunOf, within_of};
-ghost use Rattle.search_walks.specs.Output.{one_for, decision_count, SinkCause};
+ghost use Rattle.search_base.specs.Setting.{within_of, layer_of};
+ghost use Rattle.search_walks.specs.Made.{RunOf};
+ghost use Rattle.search_base.specs.Lines.{SinkCause};
+ghost use Rattle.search_walks.specs.Output.{HasNumbers, one_for, decision_count};
 ghost use Rattle.search_walks.specs.Steps.{IsLine, Followed, FollowedSome, Started, TriedOne, TriedSome, base_item};
-ghost use Rattle.search_walks.specs.Setting.{layer_of};
 ghost use Rattle.search_walks.specs.Logged.{Logged, Finished, FinishedSome};
 ghost use Rattle.search_walks.specs.Task.{setting_of, Known};
 
-use crate::covering::{either, mark_events};
-use crate::fault::SearchFault;
-use crate::lines::{spent_line, stray_line, test_line, write_line, write_terms};
-use crate::paths::{begins, prefix_of};
+use crate::covering::mark_events;
 use crate::runs::{Made, made_on};
 use crate::task::Task;
-use crate::terms::{FoundTerm, add_terms};
-use cc_model::base::{End, Input, NoMemory, Outcome, PathText};
+use cc_model::base::{Input, NoMemory, Outcome, PathText};
 use cc_model::{Checked, Site, SiteKind};
 use cc_outside::Sink;
 use flip_solve::{Turned, turn};
 use input_map::base_input;
 use run_laws::a_run_is_lawful;
+use search_base::{
+    FoundTerm, SearchFault, add_terms, begins, either, is_fault, narrow, prefix_of, spent_line,
+    stray_line, test_line, write_line, write_terms,
+};
 use std::alloc::Global;
 
 /// A run on an input that was solved.
@@ -90,14 +91,12 @@ fn count_outcomes(sites: &[Site]) -> Result<u64, NoMemory>
     Ok(count)
 }
 
-/// Whether a run ends as a fault.
-fn is_fault(end: End) -> bool
-    ensures { result ≡ is_fault end }
+/// The numbers of a summary have 64 bits.
+fn with_numbers(summary: WalkSummary) -> WalkSummary
+    ensures same { result ≡ summary }
+    ensures numbers { HasNumbers result }
 {
-    match end {
-        End::Fault(_, _) => true,
-        End::Return | End::Assume | End::Cut | End::Objects | End::Steps => false,
-    }
+    summary
 }
 
 /// The line of a run: that of a test where it kept its prediction, else that of a stray.
@@ -109,10 +108,10 @@ fn line_of(task: &Task<'_>, run: &Made, prefix: &PathText, kept: bool) -> Result
     ensures { IfOk result (λ line. IsLine (setting_of task.now) ((run.now).trace).input prefix.now line.items) }
 {
     if kept {
-        let line = test_line(task.alloc, run)?;
+        let line = test_line(task.alloc, &run.trace, &run.path)?;
         return Ok(line);
     }
-    let line = stray_line(task.alloc, run, prefix)?;
+    let line = stray_line(task.alloc, &run.trace, &run.path, prefix)?;
     Ok(line)
 }
 
@@ -163,7 +162,7 @@ impl Log {
     {
         let base = base_input(task.alloc, task.checked, task.bounds)?;
         let made = made_on(task, &base)?;
-        let line = test_line(task.alloc, &made)?;
+        let line = test_line(task.alloc, &made.trace, &made.path)?;
         write_line(out, &line)?;
         let _is_new = self.count(task, &made)?;
         Ok(made)
@@ -179,6 +178,7 @@ impl Log {
     ) -> Result<Tried, SearchFault>
         requires known { Known task.now }
         requires within { within_of (setting_of task.now) input.now }
+        requires few { length (input.now).cells < 10 ^ 18 }
         requires prefix { All HasByte prefix.now }
         requires room { self.old.made < 4294967295 }
         requires size { length self.old.covered.items ≡ 2 * length ((task.now.checked).now).sites }
@@ -249,11 +249,12 @@ impl Log {
         ensures never_falls { K.faults out.old ≤ K.faults out.new }
     {
         write_terms(task.alloc, self.terms.as_slice(), out)?;
-        Ok(WalkSummary {
+        narrow(self.terms.as_slice());
+        Ok(with_numbers(WalkSummary {
             runs: u64::from(self.made),
             covered: count_covered(&self.covered),
             outcomes: count_outcomes(task.checked.sites.as_slice())?,
             fault: self.fault,
-        })
+        }))
     }
 }

@@ -5,23 +5,21 @@ ghost use Rattle.rand_pcg.specs.Lcg.{Lcg};
 ghost use Rattle.search_walks.specs.Counted.{Nothing};
 ghost use Rattle.search_walks.specs.Logged.{Walked, WalkedSome};
 ghost use Rattle.search_walks.specs.Made.{RunOf};
-ghost use Rattle.search_walks.specs.Output.{SinkCause};
+ghost use Rattle.search_base.specs.Lines.{SinkCause};
 ghost use Rattle.search_walks.specs.Passing.{current_of, StandsAt, DrawnAt, FromStart, PassesTo, Passed, left_to_pass};
 ghost use Rattle.search_walks.specs.Task.{setting_of, Known};
-ghost use Rattle.search_walks.specs.Setting.{base_of};
+ghost use Rattle.search_base.specs.Setting.{base_of};
 ghost use Rattle.search_walks.specs.Walks.{Passes};
 
 use crate::branching::may_run;
-use crate::choices::all_outcomes;
 use crate::draws::draw;
-use crate::fault::SearchFault;
 use crate::log::Log;
-use crate::paths::same;
 use crate::runs::Made;
 use crate::task::Task;
 use cc_model::base::{NoMemory, Outcome};
 use cc_outside::Sink;
 use rand_pcg::Pcg32;
+use search_base::{SearchFault, all_outcomes, same};
 use sym_run::Event;
 
 /// An event of a run.

@@ -7,17 +7,17 @@ ghost use Rattle.cc_model.specs.Graphs.{PointsToCells};
 ghost use Rattle.cc_model.specs.Runs.{params_of};
 ghost use Rattle.tac_lower.specs.Finished.{first_in};
 ghost use Rattle.tac_lower.specs.Seen.{seen};
-ghost use Rattle.search_walks.specs.Output.{SinkCause, WalkedWhole, WalkedPart};
+ghost use Rattle.search_base.specs.Lines.{SinkCause};
+ghost use Rattle.search_walks.specs.Output.{WalkedWhole, WalkedPart};
 ghost use Rattle.search_walks.specs.Counted.{Nothing};
 ghost use Rattle.search_walks.specs.Draws.{seeded};
 ghost use Rattle.search_walks.specs.Logged.{Walked, WalkedSome};
 ghost use Rattle.search_walks.specs.Task.{setting_of, Known};
-ghost use Rattle.search_walks.specs.Setting.{setting, base_of};
+ghost use Rattle.search_base.specs.Setting.{setting, base_of};
 ghost use Rattle.search_walks.specs.Walks.{candidates as candidates_at, Branches, Passes, Directed};
 
 use crate::branching::branch_walk;
 use crate::directed::directed_walk;
-use crate::fault::SearchFault;
 use crate::log::{Log, WalkSummary};
 use crate::passing::uniform_walk;
 use crate::task::Task;
@@ -26,6 +26,7 @@ use cc_model::base::Bounds;
 use cc_outside::Sink;
 use rand_core::SeedableRng;
 use rand_pcg::Pcg32;
+use search_base::SearchFault;
 use std::alloc::Global;
 use tac_lower::Tac;
 

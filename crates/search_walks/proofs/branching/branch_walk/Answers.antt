@@ -1,9 +1,9 @@
 use Rattle.std.proofs.Common.{◌≡◌, ◌≤◌, ◌<◌, inl, inr, length, refl, arith, rules}
 use Rattle.search_walks.specs.Branching.{FromBase}
-use Rattle.search_walks.specs.Setting.{base_of}
+use Rattle.search_base.specs.Setting.{base_of}
 use Rattle.search_walks.specs.Task.{setting_of}
 use Rattle.search_walks.specs.Walks.{candidates, branch_cut_off}
-use Rattle.search_walks.proofs.OnLaws.{on_err}
+use Rattle.search_base.proofs.OnLaws.{on_err}
 use Rattle.search_walks.proofs.LoggedLaws.{cut_at_first}
 use Rattle.search_walks.proofs.OfferLaws.{few_events, gathered, empty_list}
 use Rattle.search_walks.proofs.BranchLaws.{came_first, first_cut, walk_whole}

@@ -1,5 +1,5 @@
 use Rattle.std.proofs.Common.{◌∙◌}
-use Rattle.search_walks.proofs.TermLaws.{there_is}
+use Rattle.search_base.proofs.TermLaws.{there_is}
 use Rattle.search_walks.proofs.CoverLaws.{taken_none, taken_more}
 use Rattle.search_walks.proofs.covering.mark_events.Goals as goal
 

@@ -1,7 +1,7 @@
 use Rattle.std.proofs.Common.{refl, arith, sym, subst, ◌∙◌}
 use Rattle.search_walks.specs.Course.{Went}
 use Rattle.search_walks.specs.Task.{setting_of}
-use Rattle.search_walks.proofs.OnLaws.{on_err}
+use Rattle.search_base.proofs.OnLaws.{on_err}
 use Rattle.search_walks.proofs.LedLaws.{cut_at_base, cut_after_base, led_first, ready_fresh}
 use Rattle.search_walks.proofs.directed.directed_walk.Goals as goal
 

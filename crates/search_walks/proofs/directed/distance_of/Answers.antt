@@ -2,7 +2,7 @@ use Rattle.std.proofs.Common.{◌≡◌, Bool, false, true, refl}
 use Rattle.std.proofs.lemmas.Bool.{false≢true}
 use Rattle.cc_base.specs.declared.outcomes.Outcome.{Outcome}
 use Rattle.cc_base.specs.declared.outcomes.Outcome.TheVariants as of
-use Rattle.search_walks.specs.Setting.{side_of}
+use Rattle.search_walks.specs.Deciding.{side_of}
 use Rattle.search_walks.proofs.NearLaws.{offer_none, offer_other, offer_is}
 use Rattle.search_walks.proofs.directed.distance_of.Goals as goal
 

@@ -9,4 +9,4 @@ pub returns-then-kept : goal.returns-then-kept
 returns-then-kept c = test_is (setting_of (c.args.task).now) (c.args.run).now c.requires.run _ _ (c.requires.yes c.if-kept.true) c.in_ok-line.ensures
 
 pub returns : goal.returns
-returns c = stray_is (setting_of (c.args.task).now) (c.args.run).now c.requires.run _ _ (c.requires.no c.if-kept.false) c.in_ok-line-2.ensures
+returns c = stray_is (setting_of (c.args.task).now) (c.args.run).now c.requires.run _ _ c.requires.prefix (c.requires.no c.if-kept.false) c.in_ok-line-2.ensures

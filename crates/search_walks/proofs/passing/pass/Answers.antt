@@ -1,7 +1,7 @@
 use Rattle.std.proofs.Common.{◌≡◌, ◌≤◌, ◌<◌, inl, inr, length, refl, ◌∙◌, arith, rules}
 use Rattle.search_walks.specs.Passing.{current_of}
 use Rattle.search_walks.specs.Task.{setting_of}
-use Rattle.search_walks.proofs.OnLaws.{on_err}
+use Rattle.search_base.proofs.OnLaws.{on_err}
 use Rattle.search_walks.proofs.PassLaws.{pass_over, pass_cut}
 use Rattle.search_walks.proofs.DrawLaws.{path_short}
 use Rattle.search_walks.proofs.passing.pass.Goals as goal

@@ -1,9 +1,9 @@
 use Rattle.std.proofs.Common.{◌≡◌, ◌≤◌, ◌<◌, ◌-◌, ◌⊎◌, suc, inl, inr, length, refl, ◌∙◌, arith, rules}
 use Rattle.search_walks.specs.Passing.{FromStart}
-use Rattle.search_walks.specs.Setting.{base_of}
+use Rattle.search_base.specs.Setting.{base_of}
 use Rattle.search_walks.specs.Task.{setting_of}
 use Rattle.search_walks.specs.Walks.{pass_cut_off}
-use Rattle.search_walks.proofs.OnLaws.{on_err}
+use Rattle.search_base.proofs.OnLaws.{on_err}
 use Rattle.search_walks.proofs.LoggedLaws.{cut_at_first}
 use Rattle.search_walks.proofs.PassLaws.{passes_first, passes_next, passes_end, last_of}
 use Rattle.search_walks.proofs.passing.uniform_walk.Goals as goal

@@ -1,8 +1,8 @@
 use Rattle.std.proofs.Common.{◌∷◌, [], refl, arith, sym, subst, ◌∙◌}
 use Rattle.search_walks.specs.Course.{FromBase}
-use Rattle.search_walks.specs.Setting.{setting, base_of}
+use Rattle.search_base.specs.Setting.{setting, base_of}
 use Rattle.search_walks.specs.Walks.{candidates, directed_cut_off}
-use Rattle.search_walks.proofs.OnLaws.{on_err, if_ok, err_map}
+use Rattle.search_base.proofs.OnLaws.{on_err, if_ok, err_map}
 use Rattle.search_walks.proofs.LoggedLaws.{whole, part_of_walk, part_of_terms, part_of_none}
 use Rattle.search_walks.proofs.walks.cfg_directed.Goals as goal
 

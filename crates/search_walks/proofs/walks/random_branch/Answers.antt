@@ -1,10 +1,10 @@
 use Rattle.std.proofs.Common.{refl}
 use Rattle.search_walks.specs.Branching.{FromBase}
 use Rattle.search_walks.specs.Draws.{seeded}
-use Rattle.search_walks.specs.Setting.{setting, base_of}
+use Rattle.search_base.specs.Setting.{setting, base_of}
 use Rattle.search_walks.specs.Walks.{branch_cut_off, candidates}
 use Rattle.search_walks.proofs.LoggedLaws.{part_of_none, part_of_walk}
-use Rattle.search_walks.proofs.OnLaws.{on_err}
+use Rattle.search_base.proofs.OnLaws.{on_err}
 use Rattle.search_walks.proofs.BranchLaws.{walked_from, whole_from}
 use Rattle.search_walks.proofs.WholeLaws.{whole_on, part_on}
 use Rattle.search_walks.proofs.walks.random_branch.Goals as goal

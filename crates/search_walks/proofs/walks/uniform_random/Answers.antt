@@ -1,10 +1,10 @@
 use Rattle.std.proofs.Common.{refl, ◌-◌}
 use Rattle.search_walks.specs.Passing.{FromStart}
 use Rattle.search_walks.specs.Draws.{seeded}
-use Rattle.search_walks.specs.Setting.{setting, base_of}
+use Rattle.search_base.specs.Setting.{setting, base_of}
 use Rattle.search_walks.specs.Walks.{pass_cut_off}
 use Rattle.search_walks.proofs.LoggedLaws.{part_of_none, part_of_walk}
-use Rattle.search_walks.proofs.OnLaws.{on_err}
+use Rattle.search_base.proofs.OnLaws.{on_err}
 use Rattle.search_walks.proofs.PassLaws.{passed_from, passes_from}
 use Rattle.search_walks.proofs.WholeLaws.{whole_on, part_on}
 use Rattle.search_walks.proofs.walks.uniform_random.Goals as goal

@@ -2,7 +2,7 @@ use Rattle.std.proofs.Common.{◌≡◌, ◌+◌, ◌<◌, None, length, ap, ◌
 use Rattle.search_walks.specs.Draws.{draw}
 use Rattle.search_walks.specs.Steps.{TriedOne}
 use Rattle.search_walks.specs.Task.{setting_of}
-use Rattle.search_walks.proofs.OnLaws.{on_err}
+use Rattle.search_base.proofs.OnLaws.{on_err}
 use Rattle.search_walks.proofs.OfferLaws.{in_at, got_at, few_events, gathered, fewer_offering}
 use Rattle.search_walks.proofs.ComesLaws.{none_made, run_made, run_is}
 use Rattle.search_walks.proofs.BranchLaws.{drew, came_none, came_run, step_some, step_cut, falls_none, falls_run}

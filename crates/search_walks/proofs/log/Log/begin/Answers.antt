@@ -1,12 +1,15 @@
 use Rattle.std.proofs.Common.{refl, ◌∙◌}
 use Rattle.search_walks.specs.Task.{setting_of}
 use Rattle.search_walks.proofs.MadeLaws.{input_within}
-use Rattle.search_walks.proofs.OnLaws.{on_err}
+use Rattle.search_base.proofs.OnLaws.{on_err}
 use Rattle.search_walks.proofs.FollowLaws.{base_there, started, started_part, started_all, started_none}
 use Rattle.search_walks.proofs.log.Log.begin.Goals as goal
 
 pub made_on-requires-clause-within : goal.made_on-requires-clause-within
 made_on-requires-clause-within g c = input_within (setting_of (c.args.task).now) _ c.in_ok-base.ensures.input
+
+pub made_on-requires-clause-few : goal.made_on-requires-clause-few
+made_on-requires-clause-few g c = c.in_ok-base.ensures.few
 
 pub test_line-requires : goal.test_line-requires
 test_line-requires g c = c.in_ok-made.ensures.run.bytes

@@ -2,7 +2,7 @@ use Rattle.std.proofs.Common.{◌≡◌, suc, arith, map, length, ◌⊎◌, ◌
 use Rattle.cc_base.specs.Paths.{In}
 use Rattle.search_walks.specs.Covering.{Marks, IsTakenUpTo}
 use Rattle.search_walks.specs.Task.{setting_of}
-use Rattle.search_walks.specs.Terms.{seen_term, found_at}
+use Rattle.search_base.specs.Terms.{seen_term, found_at}
 use Rattle.search_walks.proofs.TakeLaws.{took_marks}
 use Rattle.search_walks.proofs.log.Log.count.Goals as goal
 

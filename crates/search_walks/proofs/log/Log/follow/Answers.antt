@@ -2,7 +2,7 @@ use Rattle.std.proofs.Common.{rules, ◌≡◌, true, false, subst}
 use Rattle.cc_base.specs.Paths.{BeginsWith}
 use Rattle.cc_outside.specs.Told.{WritesPart}
 use Rattle.search_walks.specs.Task.{setting_of}
-use Rattle.search_walks.proofs.OnLaws.{on_err}
+use Rattle.search_base.proofs.OnLaws.{on_err}
 use Rattle.search_walks.proofs.FollowLaws.{followed, some_came, all_came}
 use Rattle.search_walks.proofs.log.Log.follow.Goals as goal
 

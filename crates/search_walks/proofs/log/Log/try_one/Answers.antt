@@ -5,8 +5,8 @@ use Rattle.flip_solve.proofs.Bared.{whole_trace}
 use Rattle.search_walks.specs.Steps.{nothing_yet}
 use Rattle.search_walks.specs.Task.{setting_of}
 use Rattle.search_walks.proofs.MadeLaws.{within_input}
-use Rattle.search_walks.proofs.OnLaws.{on_err}
-use Rattle.search_walks.proofs.TriedLaws.{came, is_offered, prefix_bytes, tried_never, tried_spent, spent_some, tried_run, run_some}
+use Rattle.search_base.proofs.OnLaws.{on_err}
+use Rattle.search_walks.proofs.TriedLaws.{came, came_few, is_offered, prefix_bytes, tried_never, tried_spent, spent_some, tried_run, run_some}
 use Rattle.search_walks.proofs.log.Log.try_one.Goals as goal
 
 pub turn-requires-clause-input : goal.turn-requires-clause-input
@@ -40,14 +40,17 @@ returns-in_err-line-in-Spent-clause-err g c = on_err _ (nothing_yet refl)
 
 pub returns-in_err-write_line-in-Spent-clause-err : goal.returns-in_err-write_line-in-Spent-clause-err
 returns-in_err-write_line-in-Spent-clause-err g c = let k = c.in_ok-prefix.ensures ∙ ap (λ (l : Path). next (take c.args.event l) c.args.outcome) c.as_slice.ensures in
-    on_err _ (spent_some (setting_of (c.args.task).now) ((c.args.run).now).trace ((c.args.run).now).path c.requires.run c.args.event c.args.outcome c.in_ok-prefix.prefix k _ _ _ _ (came (setting_of (c.args.task).now) ((c.args.run).now).trace ((c.args.run).now).path c.requires.run c.args.event c.args.outcome turn.Spent _ c.in-Spent.is c.in_ok-turned.ensures.answer c.in_ok-turned.ensures.turned) c.in_ok-line-in-Spent.ensures c.deref.ensures.value c.in_err-write_line-in-Spent.ensures.part)
+    on_err _ (spent_some (setting_of (c.args.task).now) ((c.args.run).now).trace ((c.args.run).now).path c.requires.run c.args.event c.args.outcome c.in_ok-prefix.prefix k _ _ _ _ (came (setting_of (c.args.task).now) ((c.args.run).now).trace ((c.args.run).now).path c.requires.run c.args.event c.args.outcome turn.Spent _ c.in-Spent.is c.in_ok-turned.ensures.answer c.in_ok-turned.ensures.turned) (prefix_bytes (setting_of (c.args.task).now) ((c.args.run).now).trace ((c.args.run).now).path c.requires.run c.args.event c.args.outcome c.requires.there c.requires.offered c.in_ok-prefix.prefix k) c.in_ok-line-in-Spent.ensures c.deref.ensures.value c.in_err-write_line-in-Spent.ensures.part)
 
 pub returns-in-Spent-clause-ok : goal.returns-in-Spent-clause-ok
 returns-in-Spent-clause-ok g c = let k = c.in_ok-prefix.ensures ∙ ap (λ (l : Path). next (take c.args.event l) c.args.outcome) c.as_slice.ensures in
-    tried_spent (setting_of (c.args.task).now) ((c.args.run).now).trace ((c.args.run).now).path c.requires.run c.args.event c.args.outcome c.in_ok-prefix.prefix k _ _ _ _ _ _ (came (setting_of (c.args.task).now) ((c.args.run).now).trace ((c.args.run).now).path c.requires.run c.args.event c.args.outcome turn.Spent _ c.in-Spent.is c.in_ok-turned.ensures.answer c.in_ok-turned.ensures.turned) c.in_ok-line-in-Spent.ensures c.deref.ensures.value c.in_ok-write_line-in-Spent.ensures.ok refl
+    tried_spent (setting_of (c.args.task).now) ((c.args.run).now).trace ((c.args.run).now).path c.requires.run c.args.event c.args.outcome c.in_ok-prefix.prefix k _ _ _ _ _ _ (came (setting_of (c.args.task).now) ((c.args.run).now).trace ((c.args.run).now).path c.requires.run c.args.event c.args.outcome turn.Spent _ c.in-Spent.is c.in_ok-turned.ensures.answer c.in_ok-turned.ensures.turned) (prefix_bytes (setting_of (c.args.task).now) ((c.args.run).now).trace ((c.args.run).now).path c.requires.run c.args.event c.args.outcome c.requires.there c.requires.offered c.in_ok-prefix.prefix k) c.in_ok-line-in-Spent.ensures c.deref.ensures.value c.in_ok-write_line-in-Spent.ensures.ok refl
 
 pub follow-requires-clause-within : goal.follow-requires-clause-within
 follow-requires-clause-within g c = (came (setting_of (c.args.task).now) ((c.args.run).now).trace ((c.args.run).now).path c.requires.run c.args.event c.args.outcome (turn.Turned c.in-Turned.input) _ c.in-Turned.is c.in_ok-turned.ensures.answer c.in_ok-turned.ensures.turned).within
+
+pub follow-requires-clause-few : goal.follow-requires-clause-few
+follow-requires-clause-few g c = came_few (setting_of (c.args.task).now) ((c.args.run).now).trace ((c.args.run).now).path c.requires.run c.args.event c.args.outcome c.in-Turned.input _ c.in-Turned.is c.in_ok-turned.ensures.turned
 
 pub follow-requires-clause-prefix : goal.follow-requires-clause-prefix
 follow-requires-clause-prefix g c = let k = c.in_ok-prefix.ensures ∙ ap (λ (l : Path). next (take c.args.event l) c.args.outcome) c.as_slice.ensures in

@@ -2,7 +2,7 @@ use Rattle.std.proofs.Common.{◌≡◌, ◌≤◌, ◌<◌, None, length, sym, 
 use Rattle.search_walks.specs.Passing.{current_of, StandsAt, DrawnAt}
 use Rattle.search_walks.specs.Steps.{TriedOne}
 use Rattle.search_walks.specs.Task.{setting_of}
-use Rattle.search_walks.proofs.OnLaws.{on_err}
+use Rattle.search_base.proofs.OnLaws.{on_err}
 use Rattle.search_walks.proofs.ComesLaws.{none_made, none_size, run_made, run_size, run_is}
 use Rattle.search_walks.proofs.DrawLaws.{drawn_in, path_short}
 use Rattle.search_walks.proofs.PassLaws.{run_there, below_there, event_on, event_none, event_run, event_some, stands_next, stands_run, falls_on, falls_back, event_cut}

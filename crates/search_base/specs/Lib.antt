@@ -1,0 +1,5 @@
+pub mod Setting
+pub mod Terms
+pub mod Inserting
+pub mod Lines
+pub mod Readable
