@@ -8,7 +8,8 @@ use Rattle.sym_run.specs.declared.trace.Trace.{Trace}
 use Rattle.flip_solve.specs.Needed.{bare_first, IsTraceFrom}
 use Rattle.flip_solve.proofs.Bared.{bare_later, bare_outcomes, bare_twice}
 use Rattle.search_dfs.specs.Below.{Tells}
-use Rattle.search_dfs.specs.Setting.{Setting, TraceOf}
+use Rattle.search_base.specs.Setting.{Setting}
+use Rattle.search_dfs.specs.Setting.{TraceOf}
 
 -- ---- one event more
 

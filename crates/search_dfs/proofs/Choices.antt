@@ -14,56 +14,23 @@ use Rattle.sym_run.specs.declared.trace.Trace.{Trace}
 use Rattle.search_dfs.specs.declared.open.Pending.{Pending}
 use Rattle.sym_run.specs.Traces.{IsTrace, OffersFew, outcome_at, others_at}
 use Rattle.search_dfs.specs.Below.{Tells}
-use Rattle.search_dfs.specs.Inserting.{IsPlace}
-use Rattle.search_dfs.specs.Setting.{Setting, layer_of, TraceOf, ChoicesOf, own_at, within_of, others_of, path_of, base_of}
+use Rattle.search_base.specs.Inserting.{IsPlace}
+use Rattle.search_base.specs.Setting.{Setting, layer_of, within_of, others_of, path_of, base_of}
+use Rattle.search_dfs.specs.Setting.{TraceOf, ChoicesOf, own_at}
 use Rattle.search_dfs.specs.Stack.{last_first, left_at}
 use Rattle.std.proofs.lemmas.List.Elements.{All-nil, All-cons, All-append, All-take}
 use Rattle.flip_solve.proofs.Bared.{whole_trace}
 use Rattle.search_dfs.proofs.Telling.{tells}
 use Rattle.search_dfs.proofs.Down.{last_is, snoc_first, left_same, left_more}
-use Rattle.search_dfs.proofs.Inserting.{ascends, in_inserted}
-use Rattle.search_dfs.proofs.Paths.{order_of, byte_tells}
-
--- ---- the own outcome among the others
-
-module _ (os : List Outcome) (own : Outcome) (n : ℕ) (place : IsPlace (λ x. byte_of x < byte_of own) os n) where
-  got : (l : List Outcome) (k : ℕ) (a : Outcome) → slice_get l k ≡ Some a → In a l
-  got [] k a e = absurd (cc e)
-  got (x ∷ l) zero a e = inl (cc e)
-  got (x ∷ l) (suc k) a e = inr (got l k a e)
-
-  pub choices_ascend : Ascend os → (In own os → ⊥) → Ascend (insert os n own)
-  choices_ascend h other = ascends Outcome (λ o p. byte_of o < byte_of p) own (λ x z g k. omega (arith, g, k)) os n h place.before above
-    where
-      above : (x : Outcome) → slice_get os n ≡ Some x → byte_of own < byte_of x
-      above x e = by (order_of (byte_of own) (byte_of x))
-        where
-          by : (byte_of own < byte_of x) ⊎ ((byte_of own ≡ byte_of x) ⊎ (byte_of x < byte_of own)) → byte_of own < byte_of x
-          by (inl k) = k
-          by (inr (inl k)) = absurd (other (subst (λ z. In z os) (sym (byte_tells own x k)) (got os n x e)))
-          by (inr (inr k)) = absurd (place.next x e k)
-
-  pub choices_all : (o : Outcome) → In o (insert os n own) ↔ ((o ≡ own) ⊎ In o os)
-  choices_all o = (
-    (λ i. elim ((in_inserted os n own o).0 i) [ inl j ↦ inr j | inr e ↦ inl e ]),
-    (λ i. elim i [ inl e ↦ (in_inserted os n own o).1 (inr e) | inr j ↦ (in_inserted os n own o).1 (inl j) ]),
-  )
+use Rattle.search_base.proofs.InsertLaws.{ascends, in_inserted}
+use Rattle.search_base.proofs.PathLaws.{order_of, byte_tells}
 
 -- ---- an event of a run
-
-pub map_long : {A B : Type 0} → (f : A → B) (l : List A) → length (map f l) ≡ length l
-map_long f [] = refl
-map_long f (x ∷ l) = ap suc (map_long f l)
 
 pub own_index : (l : Path) (k : ℕ) → slice_index_or l k Zero ≡ own_at k l
 own_index [] k = refl
 own_index (x ∷ l) zero = refl
 own_index (x ∷ l) (suc k) = own_index l k
-
-pub there_is : {A : Type 0} → (l : List A) (k : ℕ) (x : A) → k < length l → x ≡ get_or l k x → slice_get l k ≡ Some x
-there_is [] k x h e = absurd (omega (arith, h))
-there_is (a ∷ l) zero x h e = ap Some (sym e)
-there_is (a ∷ l) (suc k) x h e = there_is l k x (omega (arith, h)) e
 
 own_there : (l : List Event) (k : ℕ) (e : Event) → slice_get l k ≡ Some e → outcome_at e ≡ own_at k (map outcome_at l)
 own_there [] k e f = absurd (cc f)

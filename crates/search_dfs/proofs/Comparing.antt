@@ -3,7 +3,7 @@ use Rattle.std.proofs.Common.{take, ◌≡◌, ℕ, zero, suc, ◌+◌, ◌<◌,
 use Rattle.cc_base.specs.declared.outcomes.Outcome.{Outcome}
 use Rattle.cc_base.specs.Outcomes.{byte_of}
 use Rattle.cc_base.specs.Paths.{Path, Before, BeginsWith}
-use Rattle.search_dfs.proofs.Paths.{before_irr, before_trans, before_longer, compare_paths, begins_self, byte_tells, order_of}
+use Rattle.search_base.proofs.PathLaws.{before_irr, before_trans, before_longer, compare_paths, begins_self, byte_tells, order_of}
 use Rattle.search_dfs.proofs.Firsts.{first_both, all_same}
 
 heads : (x z : Outcome) (a b : Path) → x ∷ a ≡ z ∷ b → x ≡ z

@@ -9,7 +9,7 @@ use Rattle.search_dfs.specs.Laws.{Laws}
 use Rattle.cc_model.specs.Listing.{Item, test_item, past_item, stray_item, spent_item, unrun_item, key, Listing, count_by, is_stray, is_spent, is_unrun, is_at_steps, at_steps, tests, Listed, Enumerates, Sound, Licensed, Covered, is_run, IsComplete, Counts}
 use Rattle.cc_base.specs.declared.inputs.Input.{Input}
 use Rattle.cc_base.specs.declared.inputs.Test.{Test}
-use Rattle.search_dfs.proofs.Paths.{pairwise_map, length_begins, length_next, before_irr, before_trans, above_under, byte_tells, begins_nil}
+use Rattle.search_base.proofs.PathLaws.{pairwise_map, length_begins, length_next, before_irr, before_trans, above_under, byte_tells, begins_nil}
 use Rattle.search_dfs.proofs.Enumerating.{count_zero, no_strays, in_tests, tests_ascend, run_clean, Ascending}
 
 -- ---- lists of different things

@@ -9,10 +9,10 @@ use Rattle.cc_base.specs.declared.outcomes.Outcome.{Outcome}
 use Rattle.cc_base.specs.Paths.{Path}
 use Rattle.cc_model.specs.Listing.{Item, test_item, past_item, Above, NotAbove}
 use Rattle.search_dfs.specs.Search.{State, test_of}
-use Rattle.search_dfs.specs.Setting.{Setting}
+use Rattle.search_base.specs.Setting.{Setting, layer_of}
 use Rattle.search_dfs.specs.declared.open.Pending.{Pending}
 use Rattle.search_dfs.specs.declared.open.Open.{Open}
-use Rattle.search_dfs.specs.Setting.{layer_of, ChoicesOf, own_at}
+use Rattle.search_dfs.specs.Setting.{ChoicesOf, own_at}
 use Rattle.search_dfs.specs.Stack.{last_first, left_at, path_of_run, Level, Levels, Rest, Under}
 use Rattle.search_dfs.specs.Turns.{levels_of, runs_of, Fits_open, Ready, UnderOf, Went, WentSome, weight, cost}
 use Rattle.search_dfs.specs.Output.{Items, Out, Wrote, WroteSome}
@@ -190,10 +190,6 @@ module _ (p : Setting) (after : Option Path) (limit : ℕ) where
             (pushed p after limit cuts os (levels_of b) r rs s t a d.trace lt ch2 (subst (λ v. Rest p after limit cuts v (r ∷ rs) s a t) e (subst (λ v. Rest p after limit cuts (levels_of c) v s a t) rc h)));
       }
 
-pub on_err : {T E : Type 0} → {P : Type 0} → (r : Result T E) → P → OnErr r P
-on_err (Ok x) h = tt
-on_err (Err x) h = h
-
 pub left_same : (k : ℕ) (r : Pending) (rs : List Pending) → r.from ≡ k → left_at k (r ∷ rs) ≡ rs
 left_same k r rs h = elim (eqb_tells r.from k) [
   | inl q ↦ ap (λ b. if b then rs else r ∷ rs) q.0
@@ -213,11 +209,3 @@ module _ (p : Setting) where
 
   pub left_stay : (b : Open) (r : Pending) (rs : List Pending) → Ready p b r rs → (r.from ≢ b.depth) → runs_of b ≡ left_at b.depth (r ∷ rs)
   left_stay b r rs d n = d.runs ∙ sym (left_more b.depth r rs n)
-
-pub ok_map : {T E : Type 0} → {P Q : Type 0} → (r : Result T E) → OnOk r P → (P → Q) → OnOk r Q
-ok_map (Ok x) h f = f h
-ok_map (Err x) h f = tt
-
-pub err_map : {T E : Type 0} → {P Q : Type 0} → (r : Result T E) → OnErr r P → (P → Q) → OnErr r Q
-err_map (Ok x) h f = tt
-err_map (Err x) h f = f h

@@ -8,7 +8,7 @@ use Rattle.cc_model.specs.Listing.{Item, test_item, past_item, stray_item, spent
 use Rattle.cc_base.specs.declared.inputs.Input.{Input}
 use Rattle.cc_base.specs.declared.inputs.Test.{Test}
 use Rattle.cc_model.specs.Tested.{Real}
-use Rattle.search_dfs.proofs.Paths.{begins_nil, begins_next, begins_or_is, begins_one, length_begins, length_next, next_append, append_nil, append_same, before_irr, before_trans, above_under, below_under, not_nil}
+use Rattle.search_base.proofs.PathLaws.{begins_nil, begins_next, begins_or_is, begins_one, length_begins, length_next, next_append, append_nil, append_same, before_irr, before_trans, above_under, below_under, not_nil}
 
 module _ (y : Layer) (laws : Laws y) where
   -- ---- the tests of a listing

@@ -3,7 +3,7 @@ use Rattle.std.proofs.Common.{take, ◌≡◌, ℕ, zero, suc, ◌+◌, ◌<◌,
 use Rattle.cc_base.specs.declared.outcomes.Outcome.{Outcome}
 use Rattle.cc_base.specs.Paths.{Path, BeginsWith}
 use Rattle.search_dfs.proofs.Loop.{begins_first, first_whole}
-use Rattle.search_dfs.proofs.Paths.{length_begins}
+use Rattle.search_base.proofs.PathLaws.{length_begins}
 
 first_more : (i : ℕ) (l : Path) (o : Outcome) → i < length l → o ≡ get_or l i o → take (suc i) l ≡ take i l ++ (o ∷ [])
 first_more i [] o h e = absurd (omega (arith, h))

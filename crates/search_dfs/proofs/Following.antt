@@ -10,7 +10,8 @@ use Rattle.cc_model.specs.Listing.{Item, test_item, past_item, stray_item, spent
 use Rattle.search_dfs.specs.declared.open.Open.{Open}
 use Rattle.search_dfs.specs.declared.open.Pending.{Pending}
 use Rattle.search_dfs.specs.Search.{test_of}
-use Rattle.search_dfs.specs.Setting.{Setting, layer_of, TraceOf, ChoicesOf, own_at, path_of, within_of, meets_of}
+use Rattle.search_base.specs.Setting.{Setting, layer_of, path_of, within_of, meets_of}
+use Rattle.search_dfs.specs.Setting.{TraceOf, ChoicesOf, own_at}
 use Rattle.search_dfs.specs.Output.{Out, Wrote, WroteSome}
 use Rattle.search_dfs.specs.Stack.{last_first, path_of_run}
 use Rattle.search_dfs.specs.Turns.{levels_of, runs_of, Ready, Solving, Turned_to, Ends, as_test, as_past, Ended, EndedSome, test_at, Went, WentSome, Turn, TurnSome}

@@ -16,7 +16,7 @@ use Rattle.cc_model.specs.Conditions.{without, taken, alternatives, outcomes_of,
 use Rattle.cc_model.specs.Exact.{Exact, Exhausts, Told}
 use Rattle.cc_model.specs.Tested.{Layer, Term, Offers}
 use Rattle.search_dfs.specs.Laws.{Laws}
-use Rattle.search_dfs.proofs.Paths.{append_nil, length_next, begins_next, in_either}
+use Rattle.search_base.proofs.PathLaws.{append_nil, length_next, begins_next, in_either}
 use Rattle.cc_model.specs.Answers.{HasNoInput}
 use Rattle.sym_expr.proofs.AtomLaws.{Meets-append, Meets-front, Meets-back}
 use Rattle.flip_solve.proofs.Members.{some_same, got_in}

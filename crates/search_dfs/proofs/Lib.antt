@@ -1,4 +1,3 @@
-pub mod Paths
 pub mod Enumerating
 pub mod Searched
 pub mod Whole
@@ -6,7 +5,6 @@ pub mod Counting
 pub mod LayerLaws
 pub mod Outputs
 pub mod Firsts
-pub mod Inserting
 pub mod Terms
 pub mod Loop
 pub mod Down

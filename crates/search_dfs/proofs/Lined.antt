@@ -6,8 +6,9 @@ use Rattle.cc_model.specs.Report.{item_line, item_lines}
 use Rattle.cc_outside.specs.Told.{appended, WritesPart}
 use Rattle.cc_outside.proofs.ToldLemmas.{WritesPart-none, WritesPart-first}
 use Rattle.search_dfs.specs.declared.tally.Tally.{Tally}
-use Rattle.search_dfs.specs.Output.{out, CanBeRead, Tallied, Wrote, WroteSome}
-use Rattle.search_dfs.specs.Setting.{Setting}
+use Rattle.search_base.specs.Readable.{CanBeRead}
+use Rattle.search_dfs.specs.Output.{out, Tallied, Wrote, WroteSome}
+use Rattle.search_base.specs.Setting.{Setting}
 
 module _ (p : Setting) (x : Item) (line : List ℕ) (e : line ≡ item_line x) (old new : Option (List ℕ)) (f g : ℕ) (t u : Tally) where
   one_few : CanBeRead x → (z : Item) → In z (x ∷ []) → CanBeRead z

@@ -5,9 +5,9 @@ use Rattle.cc_base.specs.declared.outcomes.Outcome.{Outcome}
 use Rattle.cc_base.specs.Paths.{Path, In, next, BeginsWith}
 use Rattle.cc_model.specs.Listing.{Item, test_item, past_item, Above, NotAbove}
 use Rattle.search_dfs.specs.Search.{State, test_of, below, via, Asked, Turns, leaf_test, leaf_past, inner, cut, none, each, mine, gone}
-use Rattle.search_dfs.specs.Setting.{Setting}
+use Rattle.search_base.specs.Setting.{Setting, layer_of, others_of, path_of}
 use Rattle.search_dfs.specs.declared.open.Pending.{Pending}
-use Rattle.search_dfs.specs.Setting.{layer_of, TraceOf, ChoicesOf, own_at, others_of, path_of}
+use Rattle.search_dfs.specs.Setting.{TraceOf, ChoicesOf, own_at}
 use Rattle.search_dfs.specs.Stack.{left_at, path_of_run, Level, Levels, Does, Rest, Under}
 
 -- ---- prefixes

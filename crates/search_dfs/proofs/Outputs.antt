@@ -6,9 +6,9 @@ use Rattle.cc_model.specs.Tested.{Term}
 use Rattle.cc_model.specs.Listing.{Item, test_item, past_item, stray_item, spent_item, unrun_item, WasRun, count_by}
 use Rattle.cc_model.specs.Report.{item_line, item_lines, is_fault, has_fault}
 use Rattle.cc_outside.specs.Told.{appended}
-use Rattle.search_dfs.specs.Setting.{Setting, layer_of}
+use Rattle.search_base.specs.Setting.{Setting, layer_of}
 use Rattle.search_dfs.specs.Output.{Items, Out, Wrote, WroteSome}
-use Rattle.search_dfs.proofs.Paths.{in_left, in_right, in_either, append_nil}
+use Rattle.search_base.proofs.PathLaws.{in_left, in_right, in_either, append_nil}
 
 appended_more : (old : Option (List ℕ)) (a b : List ℕ) → appended (appended old a) b ≡ appended old (a ++ b)
 appended_more None a b = refl

@@ -6,10 +6,9 @@ use Rattle.search_dfs.specs.Laws.{Laws}
 use Rattle.search_dfs.specs.Search.{State, below, start, cut_below}
 use Rattle.search_dfs.proofs.Searched.{search_sound}
 use Rattle.search_dfs.proofs.Whole.{search_licensed, search_covered}
-use Rattle.search_dfs.specs.Setting.{Setting}
+use Rattle.search_base.specs.Setting.{Setting, layer_of, base_of}
 use Rattle.search_dfs.specs.declared.open.Pending.{Pending}
 use Rattle.search_dfs.specs.declared.open.Open.{Open}
-use Rattle.search_dfs.specs.Setting.{layer_of, base_of}
 use Rattle.search_dfs.proofs.Outputs.{wrote_more, some_more, some_none}
 use Rattle.search_dfs.specs.Stack.{Does, Rest, Under, left_at, Levels}
 use Rattle.search_dfs.specs.Turns.{levels_of, runs_of, Begins, Ready, UnderOf, Went, WentSome, Turn, TurnSome, Stopped_at}

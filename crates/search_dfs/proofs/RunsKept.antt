@@ -12,10 +12,9 @@ use Rattle.cc_model.specs.Runs.{IsInput, params_of, path_of, path_at}
 use Rattle.cc_model.specs.Traced.{traced}
 use Rattle.cc_laws.specs.LinearForms.{linear}
 use Rattle.input_map.proofs.BaseInputs.{base_within, base_is_input}
-use Rattle.search_dfs.specs.Below.{column_in}
+use Rattle.search_base.specs.Setting.{column_in, Setting, layer_of}
 use Rattle.run_laws.specs.Lawful.{Lawful}
 use Rattle.search_dfs.specs.Laws.{Laws}
-use Rattle.search_dfs.specs.Setting.{Setting, layer_of}
 use Rattle.search_dfs.proofs.LayerLaws.{layer_laws}
 use Rattle.search_dfs.proofs.RangeLaws.{in_range}
 

@@ -10,7 +10,7 @@ use Rattle.cc_base.specs.declared.inputs.Input.{Input}
 use Rattle.cc_base.specs.declared.inputs.Test.{Test}
 use Rattle.cc_model.specs.Tested.{Real}
 use Rattle.search_dfs.specs.Search.{State, test_of, Job, below, among, via, Search, leaf_test, leaf_past, inner, cut_below, cut, none, each, mine, passed, stopped, never_one, spent_one, unrun_one, stray_one, gone, Searched}
-use Rattle.search_dfs.proofs.Paths.{in_left, in_right, in_either, pairwise_append, pairwise_map, pair_of, Parts, parts_before, parts_under, parts_next, parts_left, parts_right, begins_self, begins_next, above_under, common_more}
+use Rattle.search_base.proofs.PathLaws.{in_left, in_right, in_either, pairwise_append, pairwise_map, pair_of, Parts, parts_before, parts_under, parts_next, parts_left, parts_right, begins_self, begins_next, above_under, common_more}
 
 module _ (y : Layer) (laws : Laws y) (after : Option Path) (limit : ℕ) (cuts : Bool) where
   abbrev pub I : Type 0

@@ -14,7 +14,8 @@ use Rattle.flip_solve.specs.declared.flipping.Turned.{Turned}
 use Rattle.flip_solve.specs.declared.flipping.Turned.TheVariants as turn
 use Rattle.flip_solve.specs.Settling.{answer_of}
 use Rattle.flip_solve.specs.Turning.{turned_at, IsTurnedIf}
-use Rattle.search_dfs.specs.Setting.{Setting, layer_of, Answered, path_of, meets_of}
+use Rattle.search_base.specs.Setting.{Setting, layer_of, path_of, meets_of}
+use Rattle.search_dfs.specs.Setting.{Answered}
 use Rattle.search_dfs.specs.Stack.{path_of_run}
 use Rattle.search_dfs.specs.Turns.{Solving, Turned_to}
 use Rattle.search_dfs.proofs.Step.{answered}

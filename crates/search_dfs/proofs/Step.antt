@@ -6,11 +6,11 @@ use Rattle.cc_base.specs.Paths.{Path, In, next, BeginsWith}
 use Rattle.cc_model.specs.Tested.{Offers, never, spent, turned}
 use Rattle.cc_model.specs.Listing.{stray_item, spent_item, unrun_item, PassedOver, Reached}
 use Rattle.search_dfs.specs.Search.{State, test_of, via, Asked, Turns, stopped, passed, never_one, spent_one, unrun_one, stray_one}
-use Rattle.search_dfs.specs.Setting.{Setting}
+use Rattle.search_base.specs.Setting.{Setting, layer_of, others_of, path_of, within_of, meets_of}
 use Rattle.cc_base.specs.declared.inputs.Input.{Input}
 use Rattle.search_dfs.specs.declared.open.Pending.{Pending}
 use Rattle.search_dfs.specs.declared.open.Open.{Open}
-use Rattle.search_dfs.specs.Setting.{layer_of, TraceOf, own_at, others_of, path_of, within_of, meets_of}
+use Rattle.search_dfs.specs.Setting.{TraceOf, own_at}
 use Rattle.search_dfs.specs.Stack.{last_first, left_at, path_of_run, Levels, Does, Rest}
 use Rattle.search_dfs.specs.Turns.{levels_of, runs_of, Ready, Taken, Matches, Stopped_at, UnderOf, Went, WentSome, Turn, TurnSome, weight, cost}
 use Rattle.search_dfs.specs.Output.{Items, Out, Wrote, WroteSome}

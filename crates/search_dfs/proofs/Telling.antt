@@ -22,7 +22,9 @@ use Rattle.sym_run.specs.declared.trace.Trace.{Trace}
 use Rattle.sym_run.specs.Asks.{choices_of}
 use Rattle.sym_run.specs.Stands.{AreEvents, AreTerms, IsTerm, of_terms, or_rest, term_in}
 use Rattle.sym_run.specs.Traces.{IsTrace, OffersFew, outcome_at, others_at}
-use Rattle.search_dfs.specs.Below.{Tells, token_in, column_in, found_at}
+use Rattle.search_base.specs.Terms.{token_in, found_at}
+use Rattle.search_base.specs.Setting.{column_in}
+use Rattle.search_dfs.specs.Below.{Tells}
 
 abbrev Log : Type 0
 Log = List (Entry traced.Event)

@@ -7,7 +7,8 @@ use Rattle.cc_model.specs.Listing.{PassedOver, Reached}
 use Rattle.search_dfs.specs.declared.open.Open.{Open}
 use Rattle.search_dfs.specs.declared.open.Pending.{Pending}
 use Rattle.search_dfs.specs.Output.{Out}
-use Rattle.search_dfs.specs.Setting.{Setting, own_at}
+use Rattle.search_base.specs.Setting.{Setting}
+use Rattle.search_dfs.specs.Setting.{own_at}
 use Rattle.search_dfs.specs.Stack.{path_of_run}
 use Rattle.search_dfs.specs.Turns.{Taken, Went, WentSome, Turn, TurnSome, Solving}
 use Rattle.search_dfs.proofs.Choices.{prefix_bytes}

@@ -9,7 +9,7 @@ use Rattle.cc_model.specs.Listing.{Item, test_item, past_item, stray_item, spent
 use Rattle.cc_base.specs.declared.inputs.Input.{Input}
 use Rattle.cc_base.specs.declared.inputs.Test.{Test}
 use Rattle.search_dfs.specs.Search.{State, test_of, Job, below, among, via, Turns, Search, leaf_test, leaf_past, inner, cut_below, cut, none, each, mine, passed, stopped, never_one, spent_one, unrun_one, stray_one, gone, Searched}
-use Rattle.search_dfs.proofs.Paths.{in_left, in_right, in_either, Parts, parts_before, parts_under, parts_next, begins_self, begins_nil, begins_trans, begins_next, next_begins, begins_or_is, begins_one, not_longer, length_begins, length_next, order_of}
+use Rattle.search_base.proofs.PathLaws.{in_left, in_right, in_either, Parts, parts_before, parts_under, parts_next, begins_self, begins_nil, begins_trans, begins_next, next_begins, begins_or_is, begins_one, not_longer, length_begins, length_next, order_of}
 use Rattle.search_dfs.proofs.Searched as found
 
 module _ (y : Layer) (laws : Laws y) (after : Option Path) (limit : ℕ) where

@@ -15,19 +15,6 @@ use Rattle.sym_run.specs.declared.trace.Term.{Term}
 use Rattle.sym_run.specs.declared.trace.Trace.{Trace}
 use Rattle.sym_run.specs.Traces.{OffersFew, outcome_at, others_at}
 
--- the column of a token that has a site
-unfoldable pub column_in : List Site → ℕ → ℕ
-column_in [] t = 0
-column_in (x ∷ l) t = if nat_eq x.token t then x.col else column_in l t
-
--- the token of a site
-abbrev pub token_in : List Site → ℕ → ℕ
-token_in sites i = unwrap_or (option_map (λ x. x.token) (slice_get sites i)) 0
-
--- a term by its line and column
-abbrev pub found_at : Checked → Term → Found
-found_at c t = record { line = (core_of c).line (token_in c.sites (t.site).0); col = column_in c.sites (token_in c.sites (t.site).0); kind = t.kind }
-
 -- the trace tells of the traced run of the checked program on the input, within the bounds; what the first n events offer may be
 -- missing
 pub record Tells (n : ℕ) (c : Checked) (b : Limits) (h : Input) (t : Trace) : Type 0 where

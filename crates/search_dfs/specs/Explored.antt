@@ -7,8 +7,8 @@ use Rattle.cc_model.specs.Report.{item_lines, term_lines, has_fault}
 use Rattle.cc_outside.specs.Told.{appended, WritesPart}
 use Rattle.search_dfs.specs.declared.search.Summary.{Summary}
 use Rattle.search_dfs.specs.declared.tally.Tally.{Tally}
-use Rattle.search_dfs.specs.Output.{CanBeRead, IsNarrow}
-use Rattle.search_dfs.specs.Setting.{Setting, layer_of}
+use Rattle.search_base.specs.Readable.{CanBeRead, IsNarrow}
+use Rattle.search_base.specs.Setting.{Setting, layer_of}
 
 abbrev counted : Summary → Counts
 counted s = record { terms = s.terms; spent = s.spent; steps = s.steps; strays = s.strays; unrun = s.unrun }

@@ -8,4 +8,3 @@ pub mod Stack
 pub mod Turns
 pub mod Whole
 pub mod Explored
-pub mod Inserting

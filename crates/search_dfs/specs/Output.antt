@@ -10,29 +10,12 @@ use Rattle.cc_model.specs.Listing.{Item, test_item, past_item, stray_item, spent
 use Rattle.cc_model.specs.Report.{item_lines, has_fault}
 use Rattle.cc_outside.specs.Told.{appended, WritesPart}
 use Rattle.report_words.specs.Words.{HasLine}
-use Rattle.search_dfs.specs.declared.tally.FoundTerm.{FoundTerm}
+use Rattle.search_base.specs.declared.terms.FoundTerm.{FoundTerm}
 use Rattle.search_dfs.specs.declared.tally.Tally.{Tally}
-use Rattle.search_dfs.specs.Setting.{Setting, layer_of}
+use Rattle.search_base.specs.Setting.{Setting, layer_of}
 
 abbrev pub Items : Type 0
 Items = List Item
-
-abbrev pub seen_term : FoundTerm → Term
-seen_term t = record { line = t.line; col = t.col; kind = t.kind }
-
--- by line, then by column, then by the bytes of the kind
-abbrev pub rank_of : TermKind → ℕ
-rank_of Index = 0
-rank_of Product = 1
-rank_of Quotient = 2
-rank_of Wide = 3
-
-abbrev pub Comes : Term → Term → Type 0
-Comes a c = (a.line < c.line) ⊎ ((a.line ≡ c.line) × ((a.col < c.col) ⊎ ((a.col ≡ c.col) × (rank_of a.kind < rank_of c.kind))))
-
--- the terms ascend
-abbrev pub InOrder : List FoundTerm → Type 0
-InOrder l = Pairwise Comes (map seen_term l)
 
 -- the bytes that were written, where they are told, the sink's faults, and the counts
 pub record Out : Type 0 where
@@ -54,25 +37,6 @@ pub record Tallied (p : Setting) (e : Items) (old new : Tally) : Type 0 where
   pub fault : new.fault ≡ old.fault || has_fault e
   pub terms : (x : Term) → In x (map seen_term (new.terms).items) ↔ (In x (map seen_term (old.terms).items) ⊎ ((t : Test) × WasRun t e × In x ((layer_of p).terms t.input)))
   pub order : InOrder (old.terms).items → InOrder (new.terms).items
-
--- the test of a line can be read again: its input has fewer than 10^18 cells, its outcomes have bytes, and its end's line 32 bits
-pub record HasTestLine (t : Test) : Type 0 where
-  pub cells : length (t.input).cells < 10 ^ 18
-  pub bytes : All HasByte t.path
-  pub line : HasLine t.end
-
--- the same of an item's test, its input and its prefix, where it has one
-abbrev pub CanBeRead : Item → Type 0
-CanBeRead (test_item t) = HasTestLine t
-CanBeRead (past_item t) = HasTestLine t
-CanBeRead (stray_item t q) = HasTestLine t × All HasByte q
-CanBeRead (spent_item q) = All HasByte q
-CanBeRead (unrun_item i q) = (length i.cells < 10 ^ 18) × All HasByte q
-
--- the line and the column of the term have 64 bits
-pub record IsNarrow (e : Term) : Type 0 where
-  pub line : e.line < 2 ^ 64
-  pub col : e.col < 2 ^ 64
 
 -- the items are lines that were written, and they were counted
 pub record Wrote (p : Setting) (e : Items) (old new : Out) : Type 0 where

@@ -15,20 +15,8 @@ use Rattle.sym_run.specs.declared.trace.Trace.{Trace}
 use Rattle.flip_solve.specs.Needed.{IsTraceFrom}
 use Rattle.flip_solve.specs.declared.flipping.Turned as answer
 use Rattle.flip_solve.specs.declared.flipping.Turned.TheVariants as turn
-use Rattle.search_dfs.specs.Below.{Tells, column_in}
-
--- a checked program, the bounds and the budget of a solve
-pub record Setting : Type 0 where
-  pub checked : Checked
-  pub limits : Limits
-  pub budget : ℕ
-
-abbrev pub setting : Checked → Limits → ℕ → Setting
-setting c b n = record { checked = c; limits = b; budget = n }
-
--- the tested function with what its traced runs tell
-unfoldable pub layer_of : Setting → Layer
-layer_of s = layer linear (core_of s.checked) s.limits (column_in s.checked.sites) s.budget
+use Rattle.search_base.specs.Setting.{column_in}
+use Rattle.search_dfs.specs.Below.{Tells}
 
 -- the outcome number k
 abbrev pub own_at : ℕ → Path → Outcome
@@ -59,18 +47,3 @@ abbrev pub Answered : Setting → Input → Path → answer.Turned → Type 0
 Answered s u q turn.Never = (layer_of s).Answers u q never
 Answered s u q turn.Spent = (layer_of s).Answers u q spent
 Answered s u q (turn.Turned i) = (layer_of s).Answers u q turned × ((layer_of s).runs).IsWithin i × (layer_of s).Meets u q i
-
-abbrev pub base_of : Setting → Input
-base_of s = ((layer_of s).runs).base
-
-abbrev pub path_of : Setting → Input → Path
-path_of s i = ((layer_of s).runs).path i
-
-abbrev pub within_of : Setting → Input → Type 0
-within_of s i = ((layer_of s).runs).IsWithin i
-
-abbrev pub others_of : Setting → Input → ℕ → List Outcome
-others_of s i k = (layer_of s).others i k
-
-abbrev pub meets_of : Setting → Input → Path → Input → Type 0
-meets_of s u q i = (layer_of s).Meets u q i

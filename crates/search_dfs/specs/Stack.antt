@@ -4,9 +4,9 @@ use Rattle.cc_base.specs.declared.outcomes.Outcome.{Outcome}
 use Rattle.cc_base.specs.Paths.{Path, In}
 use Rattle.cc_model.specs.Listing.{Item}
 use Rattle.search_dfs.specs.Search.{State, Job, below, among, Search}
-use Rattle.search_dfs.specs.Setting.{Setting}
+use Rattle.search_base.specs.Setting.{Setting, layer_of, others_of}
 use Rattle.search_dfs.specs.declared.open.Pending.{Pending}
-use Rattle.search_dfs.specs.Setting.{layer_of, TraceOf, own_at, others_of}
+use Rattle.search_dfs.specs.Setting.{TraceOf, own_at}
 use Rattle.path_tree.specs.Branches.{Branches}
 
 abbrev pub levels : Branches → List (List Outcome)

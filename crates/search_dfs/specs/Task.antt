@@ -8,7 +8,7 @@ use Rattle.cc_model.specs.Runs.{params_of}
 use Rattle.tac_lower.specs.Finished.{first_in}
 use Rattle.tac_lower.specs.Seen.{seen}
 use Rattle.search_dfs.specs.declared.task.Task.{Task}
-use Rattle.search_dfs.specs.Setting.{Setting, setting}
+use Rattle.search_base.specs.Setting.{Setting, setting}
 
 abbrev pub setting_of : Task → Setting
 setting_of t = setting (t.checked).now (t.bounds).now t.budget

@@ -6,15 +6,15 @@ use Rattle.cc_base.specs.Paths.{Path, next}
 use Rattle.cc_base.specs.declared.inputs.Test.{Test}
 use Rattle.cc_model.specs.Listing.{Item, test_item, past_item, Above, NotAbove, Reached}
 use Rattle.cc_outside.specs.Faults.{Rose}
-use Rattle.search_dfs.specs.declared.fault.SearchFault.{SearchFault}
-use Rattle.search_dfs.specs.declared.fault.SearchFault.TheVariants as fault
+use Rattle.search_base.specs.declared.fault.SearchFault.{SearchFault}
+use Rattle.search_base.specs.declared.fault.SearchFault.TheVariants as fault
 use Rattle.search_dfs.specs.Search.{State}
-use Rattle.search_dfs.specs.Setting.{Setting}
+use Rattle.search_base.specs.Setting.{Setting, layer_of, within_of, meets_of, base_of}
 use Rattle.search_dfs.specs.declared.open.Pending.{Pending}
 use Rattle.search_dfs.specs.declared.open.Open.{Open}
 use Rattle.cc_base.specs.declared.inputs.Input.{Input}
 use Rattle.cc_model.specs.Tested.{turned}
-use Rattle.search_dfs.specs.Setting.{layer_of, TraceOf, own_at, within_of, meets_of, base_of}
+use Rattle.search_dfs.specs.Setting.{TraceOf, own_at}
 use Rattle.search_dfs.specs.Output.{Items, Out, Wrote, WroteSome}
 use Rattle.search_dfs.specs.Stack.{levels}
 use Rattle.search_dfs.specs.Stack.{last_first, left_at, path_of_run, Level, Levels, Rest, Under}
@@ -146,9 +146,4 @@ pub record EndedSome (p : Setting) (after : Option Path) (t : Test) (old new : O
 
 -- the test of a run
 abbrev pub test_at : Pending → Test
-test_at r = record { path = r.path; end = (r.trace).end; input = (r.trace).input }
-
--- why a search is refused: the sink's faults rose where it is the sink
-abbrev pub SinkCause : ℕ → ℕ → SearchFault → Type 0
-SinkCause old new fault.Sink = Rose old new
-SinkCause old new fault.NoMemory = Unit {0}
+test_at r = listed r.trace r.path

@@ -3,9 +3,8 @@ use Rattle.std.specs.Prelude.{ℕ, ◌↔◌, Bool, List, [], ◌++◌, Option}
 use Rattle.cc_base.specs.Paths.{Path, In, Pairwise}
 use Rattle.cc_model.specs.Listing.{Sound, Licensed, Covered}
 use Rattle.search_dfs.specs.Search.{State, below, start}
-use Rattle.search_dfs.specs.Setting.{Setting}
+use Rattle.search_base.specs.Setting.{Setting, layer_of, base_of}
 use Rattle.search_dfs.specs.declared.open.Open.{Open}
-use Rattle.search_dfs.specs.Setting.{layer_of, base_of}
 use Rattle.search_dfs.specs.Stack.{Does, Rest}
 use Rattle.search_dfs.specs.Output.{Items, Out, Wrote, WroteSome}
 use Rattle.search_dfs.specs.Turns.{levels_of, runs_of, Fits_open, Matches}

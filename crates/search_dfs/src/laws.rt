@@ -1,7 +1,7 @@
 //! The laws of the search hold of the tested function.
 
 ghost use Rattle.search_dfs.specs.Laws.{Laws};
-ghost use Rattle.search_dfs.specs.Setting.{layer_of};
+ghost use Rattle.search_base.specs.Setting.{layer_of};
 ghost use Rattle.search_dfs.specs.Task.{setting_of, Known};
 
 use crate::task::Task;

@@ -1,9 +1,7 @@
 //! The depth-first search of the paths of a tested function.
 #![tactic(auto)]
 
-mod fault;
 mod laws;
-mod lines;
 mod listed;
 mod open;
 mod order;
@@ -12,5 +10,5 @@ mod search;
 mod tally;
 mod task;
 
-pub use fault::SearchFault;
 pub use search::{Summary, explore};
+pub use search_base::SearchFault;

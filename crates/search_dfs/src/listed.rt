@@ -3,25 +3,21 @@
 ghost use Rattle.std.specs.Prelude.{◌≡◌, ◌<◌, ◌≤◌, ◌^◌, [], ◌∷◌, length, OnOk, OnErr, IfErr, All};
 ghost use Rattle.cc_base.specs.Outcomes.{HasByte};
 ghost use Rattle.cc_model.specs.Listing.{test_item, past_item, stray_item, spent_item, unrun_item};
-ghost use Rattle.report_words.specs.Words.{HasLine};
 ghost use Rattle.search_dfs.specs.Output.{out as told, Wrote, WroteSome};
 ghost use Rattle.search_dfs.specs.Setting.{TraceOf};
 ghost use Rattle.search_dfs.specs.Task.{setting_of, after_of};
-ghost use Rattle.search_dfs.specs.Turns.{Ended, EndedSome, test_at, SinkCause};
+ghost use Rattle.search_base.specs.Lines.{SinkCause};
+ghost use Rattle.search_dfs.specs.Turns.{Ended, EndedSome, test_at};
 
-use crate::fault::SearchFault;
-use crate::lines::{past_line, spent_line, stray_line, test_line, unrun_line, write_line};
 use crate::open::Pending;
 use crate::order::is_above;
 use crate::tally::Tally;
 use crate::task::Task;
-use cc_model::base::{End, Input, PathText};
+use cc_model::base::{Input, PathText};
 use cc_outside::Sink;
-
-/// The line of an end has 32 bits.
-fn line_fits(end: End)
-    ensures { HasLine end }
-{}
+use search_base::{
+    SearchFault, line_fits, past_line, spent_line, stray_line, test_line, unrun_line, write_line,
+};
 
 /// Lists a run as a test.
 fn list_test<K: Sink>(
@@ -36,7 +32,7 @@ fn list_test<K: Sink>(
     ensures sink { IfErr result (λ e. SinkCause (K.faults sink.old) (K.faults sink.new) e) }
     ensures never_falls { K.faults sink.old ≤ K.faults sink.new }
 {
-    let line = test_line(task.alloc, run)?;
+    let line = test_line(task.alloc, &run.trace, &run.path)?;
     tally.count_test(task, run)?;
     line_fits(run.trace.end);
     write_line(sink, &line)
@@ -55,7 +51,7 @@ fn list_past<K: Sink>(
     ensures sink { IfErr result (λ e. SinkCause (K.faults sink.old) (K.faults sink.new) e) }
     ensures never_falls { K.faults sink.old ≤ K.faults sink.new }
 {
-    let line = past_line(task.alloc, run)?;
+    let line = past_line(task.alloc, &run.trace, &run.path)?;
     tally.count_past(task, run)?;
     line_fits(run.trace.end);
     write_line(sink, &line)
@@ -97,7 +93,7 @@ pub(crate) fn list_stray<K: Sink>(
     ensures sink { IfErr result (λ e. SinkCause (K.faults sink.old) (K.faults sink.new) e) }
     ensures never_falls { K.faults sink.old ≤ K.faults sink.new }
 {
-    let line = stray_line(task.alloc, run, prefix)?;
+    let line = stray_line(task.alloc, &run.trace, &run.path, prefix)?;
     tally.count_stray(task, run)?;
     line_fits(run.trace.end);
     write_line(sink, &line)

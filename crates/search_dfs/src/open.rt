@@ -5,11 +5,11 @@ ghost use Rattle.cc_base.specs.declared.outcomes.Outcome.{Outcome as PlainOutcom
 ghost use Rattle.search_dfs.specs.declared.open.Pending.{Pending as Kept};
 ghost use Rattle.search_dfs.specs.Output.{out as told};
 ghost use Rattle.search_dfs.specs.Task.{setting_of, after_of, Known};
-ghost use Rattle.search_dfs.specs.Turns.{levels_of, runs_of, Fits_open, Ready, Taken, Solving, Turned_to, Went, WentSome, Turn, TurnSome, SinkCause};
+ghost use Rattle.search_base.specs.Lines.{SinkCause};
+ghost use Rattle.search_dfs.specs.Turns.{levels_of, runs_of, Fits_open, Ready, Taken, Solving, Turned_to, Went, WentSome, Turn, TurnSome};
 
-use crate::fault::SearchFault;
 use crate::listed::{list_run, list_spent, list_stray, list_unrun};
-use crate::order::{begins, is_passed, prefix_of, same};
+use crate::order::is_passed;
 use crate::runs::{choices_of, last_run, leave, made_run, own_outcome};
 use crate::tally::Tally;
 use crate::task::Task;
@@ -18,6 +18,7 @@ use cc_outside::Sink;
 use flip_solve::{Turned, turn};
 use path_tree::Tree;
 use run_laws::a_run_is_lawful;
+use search_base::{SearchFault, begins, prefix_of, same};
 use sym_run::Trace;
 
 /// A run with its path, whose events from number `from` on are still open.

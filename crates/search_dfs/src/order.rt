@@ -1,35 +1,11 @@
 //! The byte order of paths.
 
-ghost use Rattle.std.specs.Prelude.{◌≡◌, ◌<◌, ◌≤◌, length, false, IsTrue, IfOk, Option, option_map, take};
-ghost use Rattle.cc_base.specs.Outcomes.{byte_of};
-ghost use Rattle.cc_base.specs.Paths.{BeginsWith, Before, next};
+ghost use Rattle.std.specs.Prelude.{◌≡◌, false, IsTrue, Option, option_map};
+ghost use Rattle.cc_base.specs.Paths.{Before};
 ghost use Rattle.cc_model.specs.Listing.{Above, NotAbove, PassedOver, Reached};
 
-use cc_model::base::{Items, NoMemory, Outcome, PathText};
-use std::alloc::Global;
-
-/// The byte of an outcome.
-pub(crate) fn byte(outcome: Outcome) -> u32
-    ensures { result ≡ byte_of outcome }
-{
-    match outcome {
-        Outcome::Zero => 33,
-        Outcome::High => 43,
-        Outcome::Low => 45,
-        Outcome::Plain => 46,
-        Outcome::False => 70,
-        Outcome::True => 84,
-        Outcome::Object(rank) => 97 + u32::from(rank),
-    }
-}
-
-/// Whether two outcomes are one.
-pub(crate) fn same(a: Outcome, b: Outcome) -> bool
-    ensures same { IsTrue result → a ≡ b }
-    ensures other { result ≡ false → a ≡ b → ⊥ }
-{
-    a == b
-}
+use cc_model::base::{Outcome, PathText};
+use search_base::{begins, byte};
 
 /// Whether a path is below another.
 pub(crate) fn is_before(a: &[Outcome], b: &[Outcome]) -> bool
@@ -52,22 +28,6 @@ pub(crate) fn is_before(a: &[Outcome], b: &[Outcome]) -> bool
     false
 }
 
-/// Whether a path begins with a prefix.
-pub(crate) fn begins(path: &[Outcome], prefix: &[Outcome]) -> bool
-    ensures yes { IsTrue result → BeginsWith path.now prefix.now }
-    ensures no { result ≡ false → BeginsWith path.now prefix.now → ⊥ }
-{
-    if path.len() < prefix.len() {
-        return false;
-    }
-    for i in 0..prefix.len() {
-        if !same(path[i], prefix[i]) {
-            return false;
-        }
-    }
-    true
-}
-
 /// Whether a path is above the one after which a listing goes on.
 pub(crate) fn is_above(after: Option<&PathText>, path: &[Outcome]) -> bool
     ensures above { IsTrue result → Above (option_map (λ r. r.now) after.entry) path.now }
@@ -88,22 +48,4 @@ pub(crate) fn is_passed(after: Option<&PathText>, prefix: &[Outcome]) -> bool
         None => false,
         Some(a) => is_before(prefix, a.as_slice()) && !begins(a.as_slice(), prefix),
     }
-}
-
-/// The first k outcomes of a path, and one more.
-pub(crate) fn prefix_of(
-    alloc: Global,
-    path: &[Outcome],
-    k: u32,
-    outcome: Outcome,
-) -> Result<PathText, NoMemory>
-    requires { k ≤ length path.now }
-    ensures { IfOk result (λ v. v ≡ next (take k path.now) outcome) }
-{
-    let mut prefix = Items::new(alloc);
-    for i in 0..k as usize {
-        prefix.push(path[i])?;
-    }
-    prefix.push(outcome)?;
-    Ok(prefix)
 }

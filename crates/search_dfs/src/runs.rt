@@ -1,23 +1,19 @@
 //! The runs that a search keeps.
 
-ghost use Rattle.std.specs.Prelude.{◌≡◌, ◌<◌, ◌≤◌, ◌⊎◌, ◌↔◌, ◌^◌, ◌∷◌, [], List, length, map, IfOk};
-ghost use Rattle.cc_base.specs.declared.outcomes.Outcome.{Outcome as PlainOutcome};
-ghost use Rattle.cc_base.specs.Outcomes.{byte_of};
-ghost use Rattle.cc_base.specs.Paths.{In, Ascend};
+ghost use Rattle.std.specs.Prelude.{◌≡◌, ◌<◌, ◌≤◌, ◌^◌, ◌∷◌, [], List, length, IfOk};
 ghost use Rattle.search_dfs.specs.declared.open.Pending.{Pending as Kept};
-ghost use Rattle.sym_run.specs.Traces.{OffersFew, outcome_at, others_at};
 ghost use Rattle.flip_solve.specs.Needed.{bare_first};
-ghost use Rattle.search_dfs.specs.Inserting.{IsPlace};
-ghost use Rattle.search_dfs.specs.Setting.{TraceOf, ChoicesOf, own_at, within_of};
+ghost use Rattle.search_base.specs.Setting.{within_of};
+ghost use Rattle.search_dfs.specs.Setting.{TraceOf, ChoicesOf, own_at};
 ghost use Rattle.search_dfs.specs.Stack.{last_first, left_at};
 ghost use Rattle.search_dfs.specs.Task.{setting_of, Known};
 
 use crate::open::Pending;
-use crate::order::byte;
 use crate::task::Task;
 use cc_model::base::{Input, Items, NoMemory, Outcome};
+use search_base::all_outcomes;
 use std::alloc::Global;
-use sym_run::{Choice, Event, Trace, run};
+use sym_run::{Event, Trace, run};
 
 /// The last run.
 pub(crate) fn last_run(runs: &Items<Pending>) -> &Pending
@@ -45,42 +41,6 @@ pub(crate) fn leave(runs: &mut Items<Pending>, depth: u32)
     if runs.as_slice()[last].from == depth {
         let _run = runs.pop();
     }
-}
-
-/// The outcomes of choices.
-fn outcomes(alloc: Global, choices: &[Choice]) -> Result<Vec<Outcome>, NoMemory>
-    ensures { IfOk result (λ v. v.items ≡ map (λ c. c.outcome) choices.now) }
-{
-    let mut outcomes = Vec::new(alloc);
-    for choice in choices {
-        outcomes.push(choice.outcome)?;
-    }
-    Ok(outcomes)
-}
-
-/// The place of an outcome among outcomes that ascend.
-fn place_of(outcomes: &[Outcome], own: Outcome) -> usize
-    ensures { IsPlace (λ x. byte_of x < byte_of own) outcomes.now result }
-{
-    for i in 0..outcomes.len() {
-        if byte(outcomes[i]) >= byte(own) {
-            return i;
-        }
-    }
-    outcomes.len()
-}
-
-/// An event's own outcome and the alternatives, ascending.
-fn all_outcomes(alloc: Global, event: &Event) -> Result<Items<Outcome>, NoMemory>
-    requires { OffersFew event.now }
-    ensures ascend { IfOk result Ascend }
-    ensures all { IfOk result (λ v. (o : PlainOutcome) → In o v ↔ ((o ≡ outcome_at event.now) ⊎ In o (others_at event.now))) }
-    ensures few { IfOk result (λ v. length v ≤ 29) }
-{
-    let mut all = outcomes(alloc, event.others.as_slice())?;
-    let at = place_of(all.as_slice(), event.taken.outcome);
-    all.insert(at, event.taken.outcome)?;
-    Ok(Items::from_vec(all))
 }
 
 /// The outcomes of event k of a run: its own and the alternatives, ascending.

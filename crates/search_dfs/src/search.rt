@@ -14,24 +14,26 @@ ghost use Rattle.tac_lower.specs.Seen.{seen};
 ghost use Rattle.search_dfs.specs.declared.open.Pending.{Pending as Kept};
 ghost use Rattle.search_dfs.specs.Explored.{Explored, ExploredSome, Counted, HasNumbers};
 ghost use Rattle.search_dfs.specs.Laws.{Laws};
-ghost use Rattle.search_dfs.specs.Output.{seen_term, out as told, IsNarrow};
-ghost use Rattle.search_dfs.specs.Setting.{setting, layer_of, within_of, base_of};
+ghost use Rattle.search_base.specs.Terms.{seen_term};
+ghost use Rattle.search_base.specs.Readable.{IsNarrow};
+ghost use Rattle.search_dfs.specs.Output.{out as told};
+ghost use Rattle.search_base.specs.Setting.{setting, layer_of, within_of, base_of};
 ghost use Rattle.search_dfs.specs.Task.{setting_of, after_of, Known};
-ghost use Rattle.search_dfs.specs.Turns.{Begins, SinkCause};
+ghost use Rattle.search_base.specs.Lines.{SinkCause};
+ghost use Rattle.search_dfs.specs.Turns.{Begins};
 ghost use Rattle.search_dfs.specs.Whole.{Listed_whole, Listed_part};
 
-use crate::fault::SearchFault;
 use crate::laws::laws_hold;
-use crate::lines::{term_line, write_line};
 use crate::open::Open;
 use crate::runs::made_run;
-use crate::tally::{FoundTerm, Tally};
+use crate::tally::Tally;
 use crate::task::Task;
 use cc_model::Checked;
 use cc_model::base::{Bounds, Input, Items, NoMemory, PathText};
 use cc_outside::Sink;
 use input_map::base_input;
 use path_tree::Tree;
+use search_base::{SearchFault, narrow, write_terms};
 use std::alloc::Global;
 use tac_lower::Tac;
 
@@ -88,46 +90,6 @@ fn search_all<K: Sink>(task: &Task<'_>, sink: &mut K, tally: &mut Tally) -> Resu
         open.step(task, sink, tally)?;
     }
     Ok(())
-}
-
-/// Writes the line of a term.
-fn write_term<K: Sink>(alloc: Global, term: FoundTerm, sink: &mut K) -> Result<(), SearchFault>
-    ensures ok { OnOk result (K.written sink.new ≡ appended (K.written sink.old) (term_line (seen_term term))) }
-    ensures part { OnErr result (WritesPart (K.written sink.old) (K.written sink.new) (term_line (seen_term term))) }
-    ensures sink { IfErr result (λ e. SinkCause (K.faults sink.old) (K.faults sink.new) e) }
-    ensures never_falls { K.faults sink.old ≤ K.faults sink.new }
-{
-    match term_line(alloc, term) {
-        Ok(line) => write_line(sink, &line),
-        Err(NoMemory) => Err(SearchFault::NoMemory),
-    }
-}
-
-/// Writes the lines of terms, each by a write of its own.
-fn write_terms<K: Sink>(alloc: Global, terms: &[FoundTerm], sink: &mut K) -> Result<(), SearchFault>
-    ensures ok { OnOk result (K.written sink.new ≡ appended (K.written sink.old) (term_lines (map seen_term terms.now))) }
-    ensures part { OnErr result (WritesPart (K.written sink.old) (K.written sink.new) (term_lines (map seen_term terms.now))) }
-    ensures sink { IfErr result (λ e. SinkCause (K.faults sink.old) (K.faults sink.new) e) }
-    ensures never_falls { K.faults sink.old ≤ K.faults sink.new }
-{
-    for term in terms {
-        write_term(alloc, *term, sink)?;
-    }
-    Ok(())
-}
-
-/// The line and the column of a term have 64 bits.
-fn narrow_one(term: FoundTerm)
-    ensures { IsNarrow (seen_term term) }
-{}
-
-/// The same of all terms.
-fn narrow(terms: &[FoundTerm])
-    ensures { (e : Found) → In e (map seen_term terms.now) → IsNarrow e }
-{
-    for term in terms {
-        narrow_one(*term);
-    }
 }
 
 /// The numbers of a summary have 64 bits.

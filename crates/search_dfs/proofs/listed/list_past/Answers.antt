@@ -2,7 +2,7 @@ use Rattle.std.proofs.Common.{[], ◌∷◌, ◌∙◌}
 use Rattle.cc_model.specs.Listing.{past_item}
 use Rattle.search_dfs.specs.Task.{setting_of}
 use Rattle.search_dfs.specs.Turns.{test_at}
-use Rattle.search_dfs.proofs.Down.{on_err, ok_map}
+use Rattle.search_base.proofs.OnLaws.{on_err, ok_map}
 use Rattle.search_dfs.proofs.Lined.{line_wrote, nothing_some}
 use Rattle.search_dfs.proofs.listed.list_past.Goals as goal
 

@@ -3,7 +3,7 @@ use Rattle.cc_model.specs.Listing.{test_item, past_item, Above, NotAbove}
 use Rattle.search_dfs.specs.Output.{out}
 use Rattle.search_dfs.specs.Task.{setting_of, after_of}
 use Rattle.search_dfs.specs.Turns.{EndedSome, as_test, as_past, test_at}
-use Rattle.search_dfs.proofs.Down.{on_err}
+use Rattle.search_base.proofs.OnLaws.{on_err}
 use Rattle.search_dfs.proofs.listed.list_run.Goals as goal
 
 pub returns-in_err-list_test-clause-err : goal.returns-in_err-list_test-clause-err

@@ -1,7 +1,7 @@
 use Rattle.std.proofs.Common.{[], ◌∷◌, ◌∙◌}
 use Rattle.cc_model.specs.Listing.{unrun_item}
 use Rattle.search_dfs.specs.Task.{setting_of}
-use Rattle.search_dfs.proofs.Down.{on_err, ok_map}
+use Rattle.search_base.proofs.OnLaws.{on_err, ok_map}
 use Rattle.search_dfs.proofs.Lined.{line_wrote, nothing_some}
 use Rattle.search_dfs.proofs.listed.list_unrun.Goals as goal
 

@@ -3,9 +3,10 @@ use Rattle.cc_base.specs.Paths.{In}
 use Rattle.cc_model.specs.Report.{term_lines}
 use Rattle.cc_model.specs.Tested.{Term as Found}
 use Rattle.cc_outside.specs.Told.{appended, WritesPart}
-use Rattle.search_dfs.specs.Output.{seen_term, IsNarrow}
-use Rattle.search_dfs.specs.Setting.{setting}
-use Rattle.search_dfs.proofs.Down.{on_err}
+use Rattle.search_base.specs.Terms.{seen_term}
+use Rattle.search_base.specs.Readable.{IsNarrow}
+use Rattle.search_base.specs.Setting.{setting}
+use Rattle.search_base.proofs.OnLaws.{on_err}
 use Rattle.search_dfs.proofs.Ending.{explored, explored_part, listed_part}
 use Rattle.search_dfs.proofs.search.explore.Goals as goal
 

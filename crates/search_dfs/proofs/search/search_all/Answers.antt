@@ -1,7 +1,7 @@
 use Rattle.std.proofs.Common.{[], refl, arith}
 use Rattle.search_dfs.specs.Task.{setting_of, after_of}
 use Rattle.search_dfs.proofs.Choices.{input_within, base_there}
-use Rattle.search_dfs.proofs.Down.{on_err}
+use Rattle.search_base.proofs.OnLaws.{on_err}
 use Rattle.search_dfs.proofs.Running.{turned, broken, done, begins_ready, begun, begun_some, nothing_yet}
 use Rattle.search_dfs.proofs.search.search_all.Goals as goal
 

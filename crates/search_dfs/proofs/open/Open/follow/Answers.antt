@@ -1,7 +1,7 @@
 use Rattle.std.proofs.Common.{refl, sym, subst, arith}
 use Rattle.cc_base.specs.Paths.{BeginsWith}
 use Rattle.search_dfs.specs.Task.{setting_of, after_of}
-use Rattle.search_dfs.proofs.Down.{on_err, ok_map, err_map}
+use Rattle.search_base.proofs.OnLaws.{on_err, ok_map, err_map}
 use Rattle.search_dfs.proofs.Following.{none_turn, unrun_turn, unrun_some, stray_turn, stray_some, gone_ready, gone_turn, gone_some}
 use Rattle.search_dfs.proofs.open.Open.follow.Goals as goal
 

@@ -5,7 +5,8 @@ use Rattle.search_dfs.specs.Stack.{path_of_run}
 use Rattle.search_dfs.specs.Task.{setting_of, after_of}
 use Rattle.search_dfs.specs.Turns.{Ended, EndedSome, test_at}
 use Rattle.search_dfs.proofs.Following.{runs_there, went_ended, refused_ended, push_some, push_few, push_ascending, push_room}
-use Rattle.search_dfs.proofs.Down.{refused, went_on, on_err}
+use Rattle.search_base.proofs.OnLaws.{on_err}
+use Rattle.search_dfs.proofs.Down.{refused, went_on}
 use Rattle.search_dfs.proofs.open.Open.go_down.Goals as goal
 
 pub list_run-requires : goal.list_run-requires

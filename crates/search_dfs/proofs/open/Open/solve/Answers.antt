@@ -1,11 +1,12 @@
 use Rattle.std.proofs.Common.{◌<◌, ◌≤◌, ◌-◌, length, refl, sym, subst}
 use Rattle.cc_base.specs.Paths.{In}
-use Rattle.search_dfs.specs.Setting.{TraceOf, others_of}
+use Rattle.search_base.specs.Setting.{others_of}
+use Rattle.search_dfs.specs.Setting.{TraceOf}
 use Rattle.search_dfs.specs.Task.{setting_of, after_of}
 use Rattle.flip_solve.proofs.Bared.{fewer_needed}
 use Rattle.search_dfs.proofs.Following.{none_turn, never_turn, spent_turn, spent_some}
 use Rattle.search_dfs.proofs.Choices.{within_input, event_offered}
-use Rattle.search_dfs.proofs.Down.{on_err, ok_map, err_map}
+use Rattle.search_base.proofs.OnLaws.{on_err, ok_map, err_map}
 use Rattle.search_dfs.proofs.Solved.{is_never, is_spent, is_turned}
 use Rattle.search_dfs.proofs.Step.{entered_before, in_prefix, offered_at}
 use Rattle.search_dfs.proofs.open.Open.solve.Goals as goal

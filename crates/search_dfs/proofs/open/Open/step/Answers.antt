@@ -4,7 +4,7 @@ use Rattle.search_dfs.specs.Stack.{Levels}
 use Rattle.search_dfs.specs.Task.{setting_of, after_of}
 use Rattle.search_dfs.specs.Turns.{levels_of, runs_of, Taken}
 use Rattle.search_dfs.proofs.Alternatives.{open_level, runs_some, released_turn, taken_of, tried, tried_some}
-use Rattle.search_dfs.proofs.Down.{ok_map, err_map}
+use Rattle.search_base.proofs.OnLaws.{ok_map, err_map}
 use Rattle.search_dfs.proofs.Following.{runs_there}
 use Rattle.search_dfs.proofs.open.Open.step.Goals as goal
 

@@ -2,7 +2,7 @@ use Rattle.std.proofs.Common.{◌<◌, ◌-◌, length, take, sym, ap, ◌∙◌
 use Rattle.cc_base.specs.Paths.{next}
 use Rattle.cc_model.specs.Listing.{PassedOver, Reached}
 use Rattle.search_dfs.specs.Task.{setting_of, after_of}
-use Rattle.search_dfs.proofs.Down.{on_err, ok_map, err_map}
+use Rattle.search_base.proofs.OnLaws.{on_err, ok_map, err_map}
 use Rattle.search_dfs.proofs.Step.{in_prefix, ready_mine}
 use Rattle.search_dfs.proofs.Tried.{nothing_tried, mine_turn, mine_some, stopped_turn, passed_turn, solving_here}
 use Rattle.search_dfs.proofs.open.Open.try_one.Goals as goal

@@ -1,7 +1,6 @@
 use Rattle.std.proofs.Common.{◌||◌, ◌⊎◌, ◌↔◌, map, refl, ap, ◌∙◌, subst}
 use Rattle.cc_base.specs.Paths.{In}
-use Rattle.search_dfs.specs.Below.{found_at}
-use Rattle.search_dfs.specs.Output.{seen_term}
+use Rattle.search_base.specs.Terms.{found_at, seen_term}
 use Rattle.search_dfs.specs.Task.{setting_of}
 use Rattle.search_dfs.specs.Turns.{test_at}
 use Rattle.search_dfs.proofs.Terms.{test_counted, run_terms}

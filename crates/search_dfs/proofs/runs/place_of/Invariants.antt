@@ -1,8 +1,0 @@
-use Rattle.std.proofs.Common.{◌<◌, take}
-use Rattle.cc_base.specs.declared.outcomes.Outcome.{Outcome}
-use Rattle.cc_base.specs.Outcomes.{byte_of}
-use Rattle.cc_base.specs.Paths.{In}
-use Rattle.search_dfs.proofs.runs.place_of.Given as goal
-
-abbrev pub invariant-loop-i : goal.invariant-loop-i
-invariant-loop-i l = (x : Outcome) → In x (take l.i l.outcomes) → byte_of x < byte_of l.own

@@ -1,6 +1,0 @@
-use Rattle.std.proofs.Common.{◌≡◌, drop}
-use Rattle.search_dfs.specs.Below.{column_in}
-use Rattle.search_dfs.proofs.tally.column_at.Given as goal
-
-abbrev pub invariant-loop-site : goal.invariant-loop-site
-invariant-loop-site l = column_in l.sites l.token ≡ column_in (drop l.site-index l.sites) l.token
