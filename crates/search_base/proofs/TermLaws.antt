@@ -1,5 +1,5 @@
 -- The terms that are found.
-use Rattle.std.proofs.Common.{◌≡◌, ℕ, zero, suc, ◌+◌, ◌<◌, ◌≤◌, ◌⊎◌, ◌↔◌, Bool, true, false, inl, inr, List, [], ◌∷◌, length, map, take, drop, Some, slice_get, ◌≢◌, if◌then◌else◌, refl, sym, ap, ◌∙◌, subst, arith, get_or, insert}
+use Rattle.std.proofs.Common.{◌≡◌, ℕ, zero, suc, ◌+◌, ◌<◌, ◌≤◌, ◌⊎◌, ◌↔◌, inl, inr, List, [], ◌∷◌, length, map, take, drop, Some, slice_get, ◌≢◌, if◌then◌else◌, refl, sym, ap, ◌∙◌, subst, arith, get_or, insert}
 use Rattle.cc_base.specs.Paths.{In, Pairwise}
 use Rattle.cc_model.specs.declared.terms.TermKind.{TermKind}
 use Rattle.cc_model.specs.declared.terms.TermKind.TheVariants.{Product, Quotient, Index, Wide}
@@ -10,7 +10,7 @@ use Rattle.sym_run.specs.declared.trace.Term.{Term as RunTerm}
 use Rattle.search_base.specs.declared.terms.FoundTerm.{FoundTerm}
 use Rattle.search_base.specs.Setting.{column_in}
 use Rattle.search_base.specs.Inserting.{IsPlace}
-use Rattle.search_base.specs.Terms.{found_at, seen_term, rank_of, Comes, InOrder}
+use Rattle.search_base.specs.Terms.{seen_term, rank_of, Comes, InOrder}
 use Rattle.search_base.proofs.InsertLaws.{ascends, in_inserted}
 use Rattle.search_base.proofs.PathLaws.{order_of}
 

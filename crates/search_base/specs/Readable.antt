@@ -1,5 +1,5 @@
 -- What can be read again from its line.
-use Rattle.std.specs.Prelude.{ℕ, ◌<◌, ◌^◌, length, All}
+use Rattle.std.specs.Prelude.{◌<◌, ◌^◌, length, All}
 use Rattle.cc_base.specs.declared.inputs.Test.{Test}
 use Rattle.cc_base.specs.Outcomes.{HasByte}
 use Rattle.cc_model.specs.Listing.{Item, test_item, past_item, stray_item, spent_item, unrun_item}

@@ -1,10 +1,10 @@
 -- The outcomes of an event, and what a new run tells.
-use Rattle.std.proofs.Common.{◌≡◌, ◌≢◌, ℕ, zero, suc, ◌-◌, ◌^◌, ◌<◌, ◌≤◌, ◌⊎◌, ◌↔◌, inl, inr, List, [], ◌∷◌, ◌++◌, length, map, take, Option, Some, None, MatchOption, All, slice_get, slice_index_or, refl, sym, ap, ◌∙◌, subst, arith, get_or, insert}
+use Rattle.std.proofs.Common.{◌≡◌, ◌≢◌, ℕ, zero, suc, ◌-◌, ◌^◌, ◌<◌, ◌≤◌, ◌⊎◌, ◌↔◌, List, [], ◌∷◌, ◌++◌, length, map, take, Option, Some, None, MatchOption, All, slice_get, slice_index_or, refl, sym, ap, ◌∙◌, subst, arith, get_or}
 use Rattle.cc_base.specs.declared.inputs.Input.{Input}
 use Rattle.cc_base.specs.declared.outcomes.Outcome.{Outcome}
 use Rattle.cc_base.specs.declared.outcomes.Outcome.TheVariants.{Zero}
 use Rattle.cc_base.specs.Limits.{InRange}
-use Rattle.cc_base.specs.Outcomes.{byte_of, HasByte}
+use Rattle.cc_base.specs.Outcomes.{HasByte}
 use Rattle.cc_base.specs.Paths.{In, Path, Ascend, next}
 use Rattle.cc_model.specs.Canonical.{base_input_of}
 use Rattle.cc_model.specs.CheckedProgram.{core_of}
@@ -14,7 +14,6 @@ use Rattle.sym_run.specs.declared.trace.Trace.{Trace}
 use Rattle.search_dfs.specs.declared.open.Pending.{Pending}
 use Rattle.sym_run.specs.Traces.{IsTrace, OffersFew, outcome_at, others_at}
 use Rattle.search_dfs.specs.Below.{Tells}
-use Rattle.search_base.specs.Inserting.{IsPlace}
 use Rattle.search_base.specs.Setting.{Setting, layer_of, within_of, others_of, path_of, base_of}
 use Rattle.search_dfs.specs.Setting.{TraceOf, ChoicesOf, own_at}
 use Rattle.search_dfs.specs.Stack.{last_first, left_at}
@@ -22,8 +21,7 @@ use Rattle.std.proofs.lemmas.List.Elements.{All-nil, All-cons, All-append, All-t
 use Rattle.flip_solve.proofs.Bared.{whole_trace}
 use Rattle.search_dfs.proofs.Telling.{tells}
 use Rattle.search_dfs.proofs.Down.{last_is, snoc_first, left_same, left_more}
-use Rattle.search_base.proofs.InsertLaws.{ascends, in_inserted}
-use Rattle.search_base.proofs.PathLaws.{order_of, byte_tells}
+use Rattle.search_base.proofs.TermLaws.{there_is}
 
 -- ---- an event of a run
 

@@ -1,24 +1,21 @@
 -- What a search has written at its end.
-use Rattle.std.proofs.Common.{◌≡◌, ℕ, zero, suc, get_or, ◌+◌, ◌<◌, ◌≤◌, ◌↔◌, ◌||◌, inl, inr, false, List, [], ◌∷◌, ◌++◌, length, map, drop, Option, refl, sym, ap, ◌∙◌, subst, arith, append_assoc, append-nil}
+use Rattle.std.proofs.Common.{◌≡◌, ℕ, zero, ◌+◌, ◌↔◌, ◌||◌, inl, inr, false, List, [], map, Option, sym, ap, ◌∙◌, subst, arith}
 use Rattle.cc_base.specs.declared.inputs.Test.{Test}
 use Rattle.cc_base.specs.Paths.{Path, In}
 use Rattle.cc_model.specs.Tested.{Term}
 use Rattle.cc_model.specs.Listing.{Counts, WasRun}
-use Rattle.cc_model.specs.Report.{item_lines, term_line, term_lines, has_fault}
+use Rattle.cc_model.specs.Report.{item_lines, term_lines, has_fault}
 use Rattle.cc_outside.specs.Told.{appended, WritesPart}
-use Rattle.cc_outside.proofs.ToldLemmas.{appended-appended, appended-empty, WritesPart-first, WritesPart-after}
+use Rattle.cc_outside.proofs.ToldLemmas.{appended-appended, WritesPart-first, WritesPart-after}
 use Rattle.search_base.proofs.PathLaws.{map_long}
-use Rattle.search_base.specs.declared.fault.SearchFault.{SearchFault}
 use Rattle.search_base.specs.declared.fault.SearchFault.TheVariants as fault
 use Rattle.search_dfs.specs.declared.search.Summary.{Summary}
-use Rattle.search_base.specs.declared.terms.FoundTerm.{FoundTerm}
 use Rattle.search_dfs.specs.declared.tally.Tally.{Tally}
 use Rattle.search_dfs.specs.Explored.{Explored, ExploredSome, Counted, HasNumbers}
 use Rattle.search_base.specs.Terms.{seen_term, InOrder}
 use Rattle.search_base.specs.Readable.{IsNarrow}
 use Rattle.search_dfs.specs.Output.{out}
 use Rattle.search_base.specs.Setting.{Setting, layer_of}
-use Rattle.search_base.specs.Lines.{SinkCause}
 use Rattle.search_dfs.specs.Whole.{Listed_whole, Listed_part}
 
 -- ---- the whole

@@ -1,26 +1,17 @@
 -- The terms that are found.
-use Rattle.std.proofs.Common.{◌≡◌, ℕ, zero, suc, ◌+◌, ◌<◌, ◌≤◌, ◌⊎◌, ◌↔◌, ◌||◌, Bool, true, false, inl, inr, List, [], ◌∷◌, length, map, take, drop, Some, slice_get, ◌≢◌, if◌then◌else◌, refl, sym, ap, ◌∙◌, subst, arith, get_or, insert}
+use Rattle.std.proofs.Common.{◌≡◌, ℕ, ◌+◌, ◌⊎◌, ◌↔◌, ◌||◌, Bool, true, false, inl, inr, [], ◌∷◌, map, refl, ap, ◌∙◌, subst, arith}
 use Rattle.cc_base.specs.declared.inputs.Test.{Test}
-use Rattle.cc_base.specs.Paths.{In, Path, Pairwise}
+use Rattle.cc_base.specs.Paths.{In, Path}
 use Rattle.cc_base.specs.declared.inputs.Input.{Input}
-use Rattle.cc_model.specs.declared.terms.TermKind.{TermKind}
-use Rattle.cc_model.specs.declared.terms.TermKind.TheVariants.{Product, Quotient, Index, Wide}
 use Rattle.cc_model.specs.Listing.{Item, test_item, past_item, stray_item, spent_item, unrun_item, WasRun, at_steps}
 use Rattle.cc_model.specs.Report.{is_fault}
 use Rattle.cc_model.specs.Tested.{Term}
-use Rattle.cc_model.specs.declared.checked.Site.{Site}
-use Rattle.cc_laws.proofs.Members.{is_same, not_same}
-use Rattle.sym_run.specs.declared.trace.Term.{Term as RunTerm}
 use Rattle.sym_run.specs.declared.trace.Trace.{Trace}
-use Rattle.search_base.specs.Setting.{column_in, Setting, layer_of}
-use Rattle.search_base.specs.Terms.{found_at, seen_term, rank_of, Comes, InOrder}
-use Rattle.search_base.specs.declared.terms.FoundTerm.{FoundTerm}
+use Rattle.search_base.specs.Setting.{Setting, layer_of}
+use Rattle.search_base.specs.Terms.{found_at, seen_term, InOrder}
 use Rattle.search_dfs.specs.declared.tally.Tally.{Tally}
-use Rattle.search_base.specs.Inserting.{IsPlace}
 use Rattle.search_dfs.specs.Output.{Tallied}
 use Rattle.search_dfs.specs.Setting.{TraceOf}
-use Rattle.search_base.proofs.InsertLaws.{ascends, in_inserted}
-use Rattle.search_base.proofs.PathLaws.{order_of}
 
 -- ---- the counts of one item
 

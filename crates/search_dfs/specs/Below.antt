@@ -1,19 +1,18 @@
 -- What the search takes from a traced run.
-use Rattle.std.specs.Prelude.{ℕ, ◌≡◌, ◌≤◌, List, [], ◌∷◌, map, option_map, unwrap_or, Some, slice_get, All, nat_eq, if◌then◌else◌}
+use Rattle.std.specs.Prelude.{ℕ, ◌≡◌, ◌≤◌, map, Some, slice_get, All}
 use Rattle.cc_base.specs.declared.inputs.Input.{Input}
 use Rattle.cc_base.specs.Limits.{Limits}
 use Rattle.cc_base.specs.Outcomes.{HasByte}
 use Rattle.cc_model.specs.declared.checked.Checked.{Checked}
-use Rattle.cc_model.specs.declared.checked.Site.{Site}
 use Rattle.cc_model.specs.CheckedProgram.{core_of}
 use Rattle.cc_model.specs.Conditions.{alternatives_at, events_of, terms}
 use Rattle.cc_model.specs.Runs.{path_at, end_at}
-use Rattle.cc_model.specs.Tested.{Term as Found}
 use Rattle.cc_laws.specs.LinearForms.{linear}
 use Rattle.sym_run.specs.declared.trace.Event.{Event}
-use Rattle.sym_run.specs.declared.trace.Term.{Term}
 use Rattle.sym_run.specs.declared.trace.Trace.{Trace}
 use Rattle.sym_run.specs.Traces.{OffersFew, outcome_at, others_at}
+use Rattle.search_base.specs.Terms.{found_at}
+use Rattle.search_base.specs.Setting.{column_in}
 
 -- the trace tells of the traced run of the checked program on the input, within the bounds; what the first n events offer may be
 -- missing

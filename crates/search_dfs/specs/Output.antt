@@ -1,18 +1,15 @@
 -- What a search writes and counts.
-use Rattle.std.specs.Prelude.{ℕ, ◌+◌, ◌<◌, ◌≤◌, ◌≡◌, ◌⊎◌, ◌↔◌, ◌||◌, ◌^◌, List, map, length, Option, All}
+use Rattle.std.specs.Prelude.{ℕ, ◌+◌, ◌≤◌, ◌≡◌, ◌⊎◌, ◌↔◌, ◌||◌, List, map, Option}
 use Rattle.cc_base.specs.declared.inputs.Test.{Test}
-use Rattle.cc_base.specs.Outcomes.{HasByte}
-use Rattle.cc_base.specs.Paths.{In, Pairwise}
-use Rattle.cc_model.specs.declared.terms.TermKind.{TermKind}
-use Rattle.cc_model.specs.declared.terms.TermKind.TheVariants.{Product, Quotient, Index, Wide}
+use Rattle.cc_base.specs.Paths.{In}
 use Rattle.cc_model.specs.Tested.{Term}
-use Rattle.cc_model.specs.Listing.{Item, test_item, past_item, stray_item, spent_item, unrun_item, WasRun, count_by, is_test, is_run, is_spent, is_at_steps, is_stray, is_unrun}
+use Rattle.cc_model.specs.Listing.{Item, WasRun, count_by, is_test, is_run, is_spent, is_at_steps, is_stray, is_unrun}
 use Rattle.cc_model.specs.Report.{item_lines, has_fault}
 use Rattle.cc_outside.specs.Told.{appended, WritesPart}
-use Rattle.report_words.specs.Words.{HasLine}
-use Rattle.search_base.specs.declared.terms.FoundTerm.{FoundTerm}
 use Rattle.search_dfs.specs.declared.tally.Tally.{Tally}
 use Rattle.search_base.specs.Setting.{Setting, layer_of}
+use Rattle.search_base.specs.Readable.{CanBeRead}
+use Rattle.search_base.specs.Terms.{seen_term, InOrder}
 
 abbrev pub Items : Type 0
 Items = List Item

@@ -3,20 +3,15 @@ use Rattle.std.specs.Prelude.{ℕ, zero, suc, ◌^◌, ◌<◌, ◌≤◌, ◌�
 use Rattle.cc_base.specs.declared.inputs.Input.{Input}
 use Rattle.cc_base.specs.declared.outcomes.Outcome.{Outcome}
 use Rattle.cc_base.specs.declared.outcomes.Outcome.TheVariants.{Zero}
-use Rattle.cc_base.specs.Limits.{Limits}
 use Rattle.cc_base.specs.Outcomes.{HasByte}
 use Rattle.cc_base.specs.Paths.{Path, In, Ascend}
-use Rattle.cc_model.specs.declared.checked.Checked.{Checked}
-use Rattle.cc_model.specs.CheckedProgram.{core_of}
-use Rattle.cc_model.specs.Conditions.{layer}
-use Rattle.cc_model.specs.Tested.{Layer, never, spent, turned}
-use Rattle.cc_laws.specs.LinearForms.{linear}
+use Rattle.cc_model.specs.Tested.{never, spent, turned}
 use Rattle.sym_run.specs.declared.trace.Trace.{Trace}
 use Rattle.flip_solve.specs.Needed.{IsTraceFrom}
 use Rattle.flip_solve.specs.declared.flipping.Turned as answer
 use Rattle.flip_solve.specs.declared.flipping.Turned.TheVariants as turn
-use Rattle.search_base.specs.Setting.{column_in}
 use Rattle.search_dfs.specs.Below.{Tells}
+use Rattle.search_base.specs.Setting.{Setting, layer_of}
 
 -- the outcome number k
 abbrev pub own_at : ℕ → Path → Outcome

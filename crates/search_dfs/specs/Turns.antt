@@ -5,8 +5,6 @@ use Rattle.cc_base.specs.Outcomes.{HasByte}
 use Rattle.cc_base.specs.Paths.{Path, next}
 use Rattle.cc_base.specs.declared.inputs.Test.{Test}
 use Rattle.cc_model.specs.Listing.{Item, test_item, past_item, Above, NotAbove, Reached}
-use Rattle.cc_outside.specs.Faults.{Rose}
-use Rattle.search_base.specs.declared.fault.SearchFault.{SearchFault}
 use Rattle.search_base.specs.declared.fault.SearchFault.TheVariants as fault
 use Rattle.search_dfs.specs.Search.{State}
 use Rattle.search_base.specs.Setting.{Setting, layer_of, within_of, meets_of, base_of}
@@ -18,6 +16,7 @@ use Rattle.search_dfs.specs.Setting.{TraceOf, own_at}
 use Rattle.search_dfs.specs.Output.{Items, Out, Wrote, WroteSome}
 use Rattle.search_dfs.specs.Stack.{levels}
 use Rattle.search_dfs.specs.Stack.{last_first, left_at, path_of_run, Level, Levels, Rest, Under}
+use Rattle.search_base.specs.Lines.{listed}
 
 abbrev pub levels_of : Open → List (List Outcome)
 levels_of b = levels b.tree

@@ -1,6 +1,6 @@
 //! The lines of a search.
 
-ghost use Rattle.std.specs.Prelude.{◌≡◌, ◌<◌, ◌≤◌, ◌^◌, [], ◌∷◌, length, OnOk, OnErr, IfErr, All};
+ghost use Rattle.std.specs.Prelude.{◌<◌, ◌≤◌, ◌^◌, [], ◌∷◌, length, OnOk, OnErr, IfErr, All};
 ghost use Rattle.cc_base.specs.Outcomes.{HasByte};
 ghost use Rattle.cc_model.specs.Listing.{test_item, past_item, stray_item, spent_item, unrun_item};
 ghost use Rattle.search_dfs.specs.Output.{out as told, Wrote, WroteSome};

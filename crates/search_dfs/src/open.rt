@@ -1,6 +1,6 @@
 //! The open branches of a search, and the runs to which they belong.
 
-ghost use Rattle.std.specs.Prelude.{◌≡◌, ℕ, ◌<◌, ◌≤◌, List, ◌∷◌, OnOk, OnErr, IfErr};
+ghost use Rattle.std.specs.Prelude.{ℕ, ◌<◌, ◌≤◌, List, ◌∷◌, OnOk, OnErr, IfErr};
 ghost use Rattle.cc_base.specs.declared.outcomes.Outcome.{Outcome as PlainOutcome};
 ghost use Rattle.search_dfs.specs.declared.open.Pending.{Pending as Kept};
 ghost use Rattle.search_dfs.specs.Output.{out as told};

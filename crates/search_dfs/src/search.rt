@@ -1,21 +1,15 @@
 //! The depth-first search as a whole.
 
 ghost use Rattle.std.specs.Prelude.{◌≡◌, ◌^◌, ◌<◌, ◌≤◌, length, IfOk, OnOk, OnErr, IfErr, map, option_map};
-ghost use Rattle.cc_base.specs.Paths.{In};
 ghost use Rattle.cc_model.specs.CheckedProgram.{core_of};
 ghost use Rattle.cc_model.specs.Compiles.{Compiles};
 ghost use Rattle.cc_model.specs.Graphs.{PointsToCells};
-ghost use Rattle.cc_model.specs.Report.{term_line, term_lines};
 ghost use Rattle.cc_model.specs.Runs.{params_of};
-ghost use Rattle.cc_model.specs.Tested.{Term as Found};
-ghost use Rattle.cc_outside.specs.Told.{appended, WritesPart};
 ghost use Rattle.tac_lower.specs.Finished.{first_in};
 ghost use Rattle.tac_lower.specs.Seen.{seen};
 ghost use Rattle.search_dfs.specs.declared.open.Pending.{Pending as Kept};
 ghost use Rattle.search_dfs.specs.Explored.{Explored, ExploredSome, Counted, HasNumbers};
 ghost use Rattle.search_dfs.specs.Laws.{Laws};
-ghost use Rattle.search_base.specs.Terms.{seen_term};
-ghost use Rattle.search_base.specs.Readable.{IsNarrow};
 ghost use Rattle.search_dfs.specs.Output.{out as told};
 ghost use Rattle.search_base.specs.Setting.{setting, layer_of, within_of, base_of};
 ghost use Rattle.search_dfs.specs.Task.{setting_of, after_of, Known};

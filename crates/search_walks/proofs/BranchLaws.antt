@@ -1,9 +1,7 @@
 -- A walk by random branches, step by step.
-use Rattle.std.proofs.Common.{◌≡◌, ℕ, suc, ◌+◌, ◌-◌, ◌<◌, ◌≤◌, ◌⊎◌, inl, inr, Bool, true, List, [], ◌∷◌, Option, Some, None, length, map, get_or, slice_get, refl, sym, ap, ◌∙◌, subst, arith}
+use Rattle.std.proofs.Common.{◌≡◌, ℕ, suc, ◌+◌, ◌-◌, ◌<◌, ◌≤◌, ◌⊎◌, inl, inr, Bool, true, List, [], Option, Some, None, length, map, get_or, slice_get, refl, sym, ap, ◌∙◌, subst, arith}
 use Rattle.cc_base.specs.declared.inputs.Input.{Input}
-use Rattle.cc_base.specs.Paths.{In}
-use Rattle.cc_model.specs.Listing.{Item, spent_item}
-use Rattle.cc_outside.specs.Told.{WritesPart}
+use Rattle.cc_model.specs.Listing.{Item}
 use Rattle.rand_pcg.specs.Lcg.{Lcg}
 use Rattle.search_walks.specs.declared.candidates.Candidate.{Candidate}
 use Rattle.search_walks.specs.declared.log.Log.{Log}
@@ -12,12 +10,12 @@ use Rattle.search_walks.specs.declared.runs.Made.{Made}
 use Rattle.search_walks.specs.Branching.{plain_of, FromBase, FromRun, CameTo, left_to_draw}
 use Rattle.search_walks.specs.Counted.{Nothing}
 use Rattle.search_walks.specs.Draws.{draw, after_draw}
-use Rattle.search_walks.specs.Logged.{Along, Walked, WalkedSome}
+use Rattle.search_walks.specs.Logged.{Walked, WalkedSome}
 use Rattle.search_base.specs.Setting.{Setting, base_of}
 use Rattle.search_walks.specs.Steps.{Started, TriedOne, TriedSome, no_input, past_budget, was_run}
-use Rattle.search_walks.specs.Walks.{Branches, branch_full, branch_none_left, branch_cut_off, branch_never_one, branch_spent_one, branch_run_one, Candidate as Plain, IsItemOf, IsSpent, Gives, prediction, candidates, without}
+use Rattle.search_walks.specs.Walks.{Branches, branch_full, branch_none_left, branch_cut_off, branch_never_one, branch_spent_one, branch_run_one, prediction, candidates, without}
 use Rattle.search_walks.proofs.LoggedLaws.{along_first, along_none, along_spent, along_run, along_end, along_cut, along_some}
-use Rattle.search_walks.proofs.OfferLaws.{got_at, in_at, seen_at, seen_length, seen_without}
+use Rattle.search_walks.proofs.OfferLaws.{got_at, seen_at, seen_length, seen_without}
 
 -- one of the alternatives was drawn, and taken away
 pub record Drew (untried rest : List Candidate) (c : Candidate) (g h : Lcg) : Type 0 where

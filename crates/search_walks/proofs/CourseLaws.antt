@@ -1,12 +1,11 @@
 -- What a directed walk knows of its alternatives and of what its runs took.
-use Rattle.std.proofs.Common.{◌≡◌, ◌<◌, ◌≤◌, ◌⊎◌, ◌↔◌, inl, inr, ℕ, zero, suc, ◌+◌, ◌*◌, Bool, true, false, List, [], ◌∷◌, ◌++◌, length, map, take, drop, get_or, Option, Some, None, slice_get, refl, sym, ◌∙◌, subst, ap, ap₂, arith}
+use Rattle.std.proofs.Common.{◌≡◌, ◌<◌, ◌≤◌, ◌⊎◌, inl, inr, ℕ, zero, suc, ◌+◌, ◌*◌, Bool, true, false, List, [], ◌∷◌, ◌++◌, length, map, take, drop, get_or, Option, Some, None, slice_get, refl, sym, ◌∙◌, subst, ap, ap₂, arith}
 use Rattle.std.proofs.lemmas.List.{length-append}
 use Rattle.std.proofs.lemmas.Option.{slice_get_within, slice_get-get_or}
 use Rattle.cc_base.specs.declared.ends.End.{End}
 use Rattle.cc_base.specs.declared.inputs.Input.{Input}
 use Rattle.cc_base.specs.declared.outcomes.Outcome.{Outcome}
 use Rattle.cc_base.specs.Paths.{Path, In}
-use Rattle.cc_model.specs.declared.checked.Checked.{Checked}
 use Rattle.cc_model.specs.declared.checked.Site.{Site}
 use Rattle.cc_model.specs.declared.checked.SiteId.{SiteId}
 use Rattle.cc_model.specs.declared.checked.SiteKind.TheVariants.{Decision}
@@ -16,7 +15,6 @@ use Rattle.cc_model.specs.Runs.{run_of}
 use Rattle.sym_run.specs.declared.trace.Choice.{Choice}
 use Rattle.sym_run.specs.declared.trace.Event.{Event}
 use Rattle.sym_run.specs.declared.trace.Trace.{Trace}
-use Rattle.sym_run.specs.Stands.{IsSite}
 use Rattle.sym_run.specs.Traces.{OffersFew, outcome_at, others_at}
 use Rattle.tac_lower.specs.declared.tac.Tac.{Tac}
 use Rattle.search_walks.specs.declared.candidates.Candidate.{Candidate as Offer}
@@ -27,16 +25,15 @@ use Rattle.search_walks.specs.Course.{plain, IsOffered, Covers}
 use Rattle.search_walks.specs.Covering.{Marks}
 use Rattle.search_walks.specs.Distance.{entry, IsDecisionSite, IsDistance, AreDistances}
 use Rattle.search_walks.specs.Made.{RunOf}
-use Rattle.search_walks.specs.Nearest.{IsAtSite, IsAtToken, IsAtOffer, IsAtPlace, IsFirst}
+use Rattle.search_walks.specs.Nearest.{IsAtOffer, IsAtPlace, IsFirst}
 use Rattle.search_walks.specs.Offers.{offers_at, offers_from}
 use Rattle.search_base.specs.Setting.{Setting, layer_of, base_of}
-use Rattle.search_walks.specs.Deciding.{Decides, Takes, side_of}
+use Rattle.search_walks.specs.Deciding.{Takes}
 use Rattle.search_walks.specs.Steps.{Started}
 use Rattle.search_base.specs.Terms.{token_in}
 use Rattle.search_walks.specs.Walks.{Candidate, candidates, candidates_from, at_event, without, IsCovered, IsNew, IsFar, IsNearest, HasNone}
-use Rattle.search_walks.proofs.LayerLaws.{half_entry}
-use Rattle.search_base.proofs.PathLaws.{in_left, in_right, in_either}
-use Rattle.search_walks.proofs.TakeLaws.{Beside, entry_of, event_of, token_is}
+use Rattle.search_base.proofs.PathLaws.{in_either}
+use Rattle.search_walks.proofs.TakeLaws.{Beside, entry_of, token_is}
 
 -- ---- lists
 

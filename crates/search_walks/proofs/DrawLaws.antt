@@ -10,9 +10,9 @@ use Rattle.search_walks.specs.declared.runs.Made.{Made}
 use Rattle.search_walks.specs.Draws.{draw, after_draw}
 use Rattle.search_walks.specs.Made.{RunOf}
 use Rattle.search_walks.specs.Passing.{DrawnAt, no_draw, own_drawn, other_drawn}
-use Rattle.search_base.specs.Setting.{Setting, layer_of, path_of}
+use Rattle.search_base.specs.Setting.{Setting, layer_of}
 use Rattle.search_walks.specs.Walks.{AreOutcomes}
-use Rattle.search_walks.proofs.OfferLaws.{got_at, in_at, length_map}
+use Rattle.search_walks.proofs.OfferLaws.{in_at, length_map}
 
 pub some_in : {A : Type 0} → (x : A) → (l : List A) → In x l → 1 ≤ length l
 some_in x [] h = absurd h

@@ -1,8 +1,7 @@
 -- The flow of a code, backwards, one instruction after another.
-use Rattle.std.proofs.Common.{◌≡◌, ◌<◌, ◌≤◌, ◌⊎◌, ◌↔◌, inl, inr, ℕ, zero, suc, ◌+◌, Bool, true, false, List, [], ◌∷◌, length, take, get_or, Option, Some, None, slice_get, refl, sym, ◌∙◌, subst, ap, arith}
+use Rattle.std.proofs.Common.{◌≡◌, ◌<◌, ◌⊎◌, ◌↔◌, inl, inr, ℕ, suc, Bool, true, false, List, length, get_or, Option, Some, None, slice_get, refl, sym, ◌∙◌, subst, ap, arith}
 use Rattle.std.proofs.lemmas.Bool.{cases_lt}
 use Rattle.std.proofs.lemmas.Option.{slice_get_within, slice_get-get_or}
-use Rattle.cc_base.specs.Paths.{In}
 use Rattle.cc_model.specs.declared.checked.Checked.{Checked}
 use Rattle.cc_model.specs.declared.checked.SiteId.{SiteId}
 use Rattle.tac_lower.specs.declared.instr.Instr.{Instr}

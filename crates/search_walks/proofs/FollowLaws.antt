@@ -1,5 +1,5 @@
 -- A run for a prediction.
-use Rattle.std.proofs.Common.{◌≡◌, ◌↔◌, ℕ, Bool, true, false, List, [], Option, All, append-nil, refl, sym, ap, ◌∙◌, subst}
+use Rattle.std.proofs.Common.{◌≡◌, ℕ, Bool, true, false, List, [], Option, All, append-nil, refl, sym, ap, ◌∙◌, subst}
 use Rattle.cc_base.specs.declared.ends.End.{End}
 use Rattle.cc_base.specs.declared.inputs.Input.{Input}
 use Rattle.cc_base.specs.declared.inputs.Test.{Test}
@@ -8,13 +8,12 @@ use Rattle.cc_base.specs.Paths.{Path, BeginsWith}
 use Rattle.cc_model.specs.Canonical.{base_input_of}
 use Rattle.cc_model.specs.CheckedProgram.{core_of}
 use Rattle.cc_model.specs.Runs.{params_of}
-use Rattle.cc_model.specs.Listing.{Item, test_item, stray_item}
+use Rattle.cc_model.specs.Listing.{test_item, stray_item}
 use Rattle.cc_model.specs.Report.{item_line}
 use Rattle.cc_outside.specs.Told.{appended, WritesPart}
 use Rattle.cc_outside.proofs.ToldLemmas.{WritesPart-none, WritesPart-after}
 use Rattle.search_walks.specs.declared.runs.Made.{Made}
 use Rattle.search_walks.specs.declared.log.Log.{Log}
-use Rattle.search_walks.specs.declared.log.Tried.{Tried}
 use Rattle.search_walks.specs.Counted.{Counted}
 use Rattle.search_walks.specs.Made.{RunOf}
 use Rattle.search_walks.specs.Output.{test_at}

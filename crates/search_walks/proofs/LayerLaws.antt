@@ -1,16 +1,16 @@
 -- Distances, layer by layer.
-use Rattle.std.proofs.Common.{◌≡◌, ◌≢◌, ◌<◌, ◌≤◌, ◌⊎◌, ◌↔◌, inl, inr, ℕ, zero, suc, ◌+◌, ◌*◌, ◌/◌, ◌%◌, Bool, true, false, sum_by, List, [], ◌∷◌, ◌++◌, length, take, set, get_or, Option, Some, None, slice_get, refl, sym, ◌∙◌, subst, ap, arith}
+use Rattle.std.proofs.Common.{◌≡◌, ◌<◌, ◌≤◌, ◌⊎◌, inl, inr, ℕ, zero, suc, ◌+◌, ◌*◌, ◌/◌, ◌%◌, Bool, true, false, List, [], ◌∷◌, ◌++◌, length, Option, Some, None, slice_get, refl, sym, ◌∙◌, subst, ap, arith}
 use Rattle.std.proofs.lemmas.Bool.{cases_lt, cases_eq}
-use Rattle.std.proofs.lemmas.Option.{slice_get_within, slice_get-get_or}
+use Rattle.std.proofs.lemmas.Option.{slice_get_within}
 use Rattle.cc_base.specs.Paths.{In}
 use Rattle.cc_model.specs.declared.checked.Checked.{Checked}
 use Rattle.tac_lower.specs.declared.tac.Tac.{Tac}
-use Rattle.tac_lower.specs.Flow.{LeadsTo, OutcomeLeadsTo}
-use Rattle.search_walks.specs.Distance.{entry, IsDecisionSite, DecidesAt, IsPlain, Flows, here, on, IsNext, Walk, ends, goes, IsDistance, AreDistances}
-use Rattle.search_walks.specs.Rows.{row, Has}
-use Rattle.search_walks.specs.Backwards.{Comes, Edge, IsDecision, Arrives, FlowUpTo}
-use Rattle.search_walks.specs.Layers.{IsPassed, HasDistance, Opens, Gives, DecisionsOf, Near, Within, Done, Layer, Found, Passing, IsUncovered, Starts, nones, unpassed}
-use Rattle.search_base.proofs.PathLaws.{in_left, in_right, in_either}
+use Rattle.tac_lower.specs.Flow.{OutcomeLeadsTo}
+use Rattle.search_walks.specs.Distance.{entry, IsDecisionSite, DecidesAt, IsPlain, Flows, here, on, Walk, ends, goes, IsDistance, AreDistances}
+use Rattle.search_walks.specs.Rows.{row}
+use Rattle.search_walks.specs.Backwards.{Edge, IsDecision, Arrives, FlowUpTo}
+use Rattle.search_walks.specs.Layers.{IsPassed, HasDistance, Opens, Gives, DecisionsOf, Near, Within, Done, Layer, Found, Passing, Starts}
+use Rattle.search_base.proofs.PathLaws.{in_left}
 use Rattle.search_walks.proofs.RowLaws.{in_push, in_last}
 
 -- ---- entries

@@ -1,14 +1,13 @@
 -- A directed walk, step by step.
-use Rattle.std.proofs.Common.{◌≡◌, ◌<◌, ◌≤◌, ◌⊎◌, ◌↔◌, inl, inr, ℕ, zero, suc, ◌+◌, ◌-◌, ◌*◌, Bool, true, false, List, [], ◌∷◌, ◌++◌, length, get_or, map, Option, Some, None, Result, Ok, Err, OnErr, slice_get, refl, sym, ◌∙◌, subst, ap, arith}
+use Rattle.std.proofs.Common.{◌≡◌, ◌<◌, ◌≤◌, ◌⊎◌, inl, inr, ℕ, suc, ◌+◌, ◌-◌, ◌*◌, Bool, true, false, List, [], ◌∷◌, length, get_or, map, Option, Some, None, Result, Ok, Err, OnErr, slice_get, refl, sym, ◌∙◌, subst, ap, arith}
 use Rattle.std.proofs.lemmas.Option.{slice_get_within}
 use Rattle.cc_base.specs.declared.inputs.Input.{Input}
 use Rattle.cc_base.specs.Limits.{InRange}
-use Rattle.cc_base.specs.Paths.{Path, In}
+use Rattle.cc_base.specs.Paths.{In}
 use Rattle.cc_model.specs.declared.checked.Checked.{Checked}
-use Rattle.cc_model.specs.Listing.{Item, spent_item}
+use Rattle.cc_model.specs.Listing.{Item}
 use Rattle.cc_model.specs.Report.{item_line}
-use Rattle.cc_outside.specs.Told.{appended, WritesPart}
-use Rattle.sym_run.specs.declared.trace.Event.{Event}
+use Rattle.cc_outside.specs.Told.{WritesPart}
 use Rattle.sym_run.specs.Traces.{outcome_at}
 use Rattle.tac_lower.specs.declared.tac.Tac.{Tac}
 use Rattle.search_walks.specs.declared.candidates.Candidate.{Candidate as Offer}
@@ -16,16 +15,15 @@ use Rattle.search_walks.specs.declared.directed.Course.{Course}
 use Rattle.search_walks.specs.declared.log.Log.{Log}
 use Rattle.search_walks.specs.declared.log.Tried.{Tried}
 use Rattle.search_walks.specs.declared.runs.Made.{Made}
-use Rattle.search_walks.specs.Counted.{Counted, Nothing}
-use Rattle.search_walks.specs.Course.{plain, IsOffered, Covers, Fresh, Ready, left, FromBase, FromCourse, Led}
+use Rattle.search_walks.specs.Counted.{Nothing}
+use Rattle.search_walks.specs.Course.{plain, IsOffered, Covers, Fresh, Ready, FromBase, FromCourse, Led}
 use Rattle.search_walks.specs.Distance.{AreDistances}
 use Rattle.search_walks.specs.Logged.{Along, Walked, WalkedSome}
 use Rattle.search_walks.specs.Made.{RunOf}
 use Rattle.search_walks.specs.Nearest.{IsAtPlace, IsFirst}
-use Rattle.search_walks.specs.Offers.{offers_from}
 use Rattle.search_base.specs.Setting.{Setting, layer_of, base_of}
 use Rattle.search_walks.specs.Steps.{Followed, Started, TriedOne, no_input, past_budget, was_run, TriedSome, base_item}
-use Rattle.search_walks.specs.Walks.{Candidate, candidates, without, prediction, Gives, IsItemOf, IsNever, IsSpent, IsNew, IsNearest, HasNone, Directed, directed_full, directed_none_near, directed_cut_off, directed_never_one, directed_spent_one, directed_new_one, directed_old_one}
+use Rattle.search_walks.specs.Walks.{Candidate, candidates, without, prediction, Gives, IsItemOf, IsNew, IsNearest, Directed, directed_full, directed_none_near, directed_cut_off, directed_never_one, directed_spent_one, directed_new_one, directed_old_one}
 use Rattle.search_walks.proofs.CourseLaws.{length_map, map_without, in_at, in_without, shorter, plain_offers, are_offered, few_offers, covers_first, covers_run, covers_old, is_new, not_new, no_nearest, a_nearest}
 use Rattle.search_walks.proofs.LoggedLaws.{along_first, along_none, along_spent, along_run, along_end, along_cut, along_some, cut_at_first}
 use Rattle.search_walks.proofs.NewLaws.{new_or}

@@ -1,5 +1,5 @@
 -- A run that was made tells of its input's run.
-use Rattle.std.proofs.Common.{◌≡◌, ℕ, ◌<◌, ◌≤◌, ◌^◌, length, map, All, Some, slice_get, sym, ◌∙◌, subst, arith}
+use Rattle.std.proofs.Common.{◌≡◌, ℕ, ◌<◌, ◌≤◌, ◌^◌, length, map, All, Some, slice_get, sym, subst, arith}
 use Rattle.cc_base.specs.declared.inputs.Input.{Input}
 use Rattle.cc_base.specs.Limits.{InRange}
 use Rattle.cc_base.specs.Outcomes.{HasByte}

@@ -1,8 +1,7 @@
 -- The alternatives that a run offers.
-use Rattle.std.proofs.Common.{◌≡◌, ℕ, zero, suc, ◌+◌, ◌*◌, ◌<◌, ◌≤◌, ◌⊎◌, inl, inr, List, [], ◌∷◌, ◌++◌, length, map, take, drop, get_or, remove, Some, slice_get, refl, sym, ap, ap₂, ◌∙◌, subst, arith, length-append}
+use Rattle.std.proofs.Common.{◌≡◌, ℕ, zero, suc, ◌+◌, ◌*◌, ◌<◌, ◌≤◌, ◌⊎◌, inl, inr, List, [], ◌∷◌, ◌++◌, length, map, take, drop, get_or, Some, slice_get, refl, sym, ap, ap₂, ◌∙◌, subst, arith, length-append}
 use Rattle.cc_base.specs.declared.inputs.Input.{Input}
-use Rattle.cc_base.specs.declared.outcomes.Outcome.{Outcome}
-use Rattle.cc_base.specs.Paths.{Path, In}
+use Rattle.cc_base.specs.Paths.{In}
 use Rattle.cc_model.specs.declared.checked.SiteId.{SiteId}
 use Rattle.sym_run.specs.declared.trace.Choice.{Choice}
 use Rattle.sym_run.specs.declared.trace.Event.{Event}
@@ -12,7 +11,7 @@ use Rattle.search_walks.specs.declared.runs.Made.{Made}
 use Rattle.search_walks.specs.Branching.{plain_of, IsOffered, Offering}
 use Rattle.search_walks.specs.Made.{RunOf}
 use Rattle.search_walks.specs.Offers.{offers_at, offers_from}
-use Rattle.search_base.specs.Setting.{Setting, layer_of, path_of}
+use Rattle.search_base.specs.Setting.{Setting, layer_of}
 use Rattle.search_walks.specs.Walks.{Candidate as Plain, at_event, candidates_from, candidates, without}
 
 -- ---- lists

@@ -2,22 +2,20 @@
 use Rattle.std.proofs.Common.{◌≡◌, ℕ, zero, suc, ◌+◌, ◌-◌, ◌<◌, ◌≤◌, ◌⊎◌, inl, inr, Bool, true, false, List, [], ◌∷◌, Option, Some, None, length, slice_get, take, refl, sym, ap, ◌∙◌, subst, arith, length-append}
 use Rattle.cc_base.specs.declared.inputs.Input.{Input}
 use Rattle.cc_base.specs.declared.outcomes.Outcome.{Outcome}
-use Rattle.cc_base.specs.Paths.{In, Ascend, Path}
-use Rattle.cc_model.specs.Listing.{Item, spent_item, test_item, stray_item}
+use Rattle.cc_base.specs.Paths.{Path}
+use Rattle.cc_model.specs.Listing.{Item}
 use Rattle.rand_pcg.specs.Lcg.{Lcg}
-use Rattle.sym_run.specs.declared.trace.Event.{Event}
-use Rattle.sym_run.specs.Traces.{outcome_at, others_at}
 use Rattle.search_walks.specs.declared.log.Log.{Log}
 use Rattle.search_walks.specs.declared.log.Tried.{Tried}
 use Rattle.search_walks.specs.declared.runs.Made.{Made}
 use Rattle.search_walks.specs.Counted.{Nothing}
 use Rattle.search_walks.specs.Draws.{draw, after_draw}
-use Rattle.search_walks.specs.Logged.{Along, Walked, WalkedSome}
+use Rattle.search_walks.specs.Logged.{Walked, WalkedSome}
 use Rattle.search_walks.specs.Made.{RunOf}
 use Rattle.search_walks.specs.Passing.{StandsAt, left_to_pass, DrawnAt, no_draw, own_drawn, other_drawn, FromStart, FromEvent, PassesTo, Passed}
-use Rattle.search_base.specs.Setting.{Setting, layer_of, base_of, path_of}
+use Rattle.search_base.specs.Setting.{Setting, base_of, path_of}
 use Rattle.search_walks.specs.Steps.{Started, TriedOne, TriedSome, no_input, past_budget, was_run}
-use Rattle.search_walks.specs.Walks.{AreOutcomes, Keeps, Passes, pass_full, last_pass, pass_cut_off, next_pass, pass_no_draw, pass_own_one, pass_never_one, pass_spent_one, pass_kept_one, pass_left_one, IsItemOf, kept, left, IsSpent, Gives, prediction, test_of}
+use Rattle.search_walks.specs.Walks.{AreOutcomes, Keeps, Passes, pass_full, last_pass, pass_cut_off, next_pass, pass_no_draw, pass_own_one, pass_never_one, pass_spent_one, pass_kept_one, pass_left_one, IsItemOf, kept, left, Gives, prediction}
 use Rattle.search_base.proofs.PathLaws.{length_begins}
 use Rattle.search_walks.proofs.LoggedLaws.{along_first, along_none, along_spent, along_run, along_end, along_cut, along_some}
 

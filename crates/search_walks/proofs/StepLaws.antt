@@ -1,18 +1,18 @@
 -- One instruction is passed, one outcome gets a distance.
-use Rattle.std.proofs.Common.{◌≡◌, ◌≢◌, ◌<◌, ◌≤◌, ◌⊎◌, ◌↔◌, inl, inr, ℕ, zero, suc, ◌+◌, ◌*◌, ◌/◌, Bool, true, false, sum_by, List, [], ◌∷◌, ◌++◌, length, take, set, get_or, Option, Some, None, slice_get, refl, sym, ◌∙◌, subst, ap, arith}
+use Rattle.std.proofs.Common.{◌≡◌, ◌≢◌, ◌<◌, ◌≤◌, ◌⊎◌, inl, inr, ℕ, zero, suc, ◌+◌, ◌/◌, Bool, true, false, sum_by, List, [], ◌∷◌, ◌++◌, length, take, set, get_or, Option, Some, None, slice_get, refl, sym, ◌∙◌, subst, ap, arith}
 use Rattle.std.specs.Option.{is_some}
 use Rattle.std.proofs.Math.ListN.{length-set}
 use Rattle.std.proofs.lemmas.List.{length-append}
 use Rattle.std.proofs.lemmas.Bool.{cases_lt, cases_eq}
 use Rattle.std.proofs.lemmas.List.Sums.{sum_by-set}
-use Rattle.std.proofs.lemmas.Option.{slice_get_within, slice_get-get_or, slice_get_past}
+use Rattle.std.proofs.lemmas.Option.{slice_get_within, slice_get-get_or}
 use Rattle.cc_base.specs.Paths.{In}
 use Rattle.cc_model.specs.declared.checked.Checked.{Checked}
 use Rattle.search_walks.specs.Distance.{IsDecisionSite}
-use Rattle.search_walks.specs.Rows.{row, Has}
+use Rattle.search_walks.specs.Rows.{row}
 use Rattle.search_walks.specs.Layers.{one_if_not, one_if_none, IsPassed, HasDistance, Opens, Gives, DecisionsOf, nones, unpassed, IsUncovered, Starts}
-use Rattle.search_base.proofs.PathLaws.{in_left, in_right, in_either}
-use Rattle.search_walks.proofs.RowLaws.{in_push, in_last, in_more, in_next, in_front, get_any}
+use Rattle.search_base.proofs.PathLaws.{in_left, in_right}
+use Rattle.search_walks.proofs.RowLaws.{in_push, in_more, in_next, in_front, get_any}
 
 pub get_same : {A : Type 0} → (l : List A) (i : ℕ) (x : A) → i < length l → slice_get (set l i x) i ≡ Some x
 get_same [] i x h = absurd (omega (arith, h))

@@ -1,8 +1,8 @@
 -- The outcomes of decisions that a run's events took are those that the run takes.
-use Rattle.std.proofs.Common.{◌≡◌, ◌<◌, ◌⊎◌, ◌↔◌, ◌*◌, ℕ, zero, suc, Bool, true, false, List, [], ◌∷◌, length, map, Some, slice_get, option_map, unwrap_or, refl, sym, ◌∙◌, subst, ap, arith}
+use Rattle.std.proofs.Common.{◌≡◌, ℕ, zero, suc, Bool, List, [], ◌∷◌, length, Some, slice_get, option_map, unwrap_or, refl, sym, ◌∙◌, subst, ap}
 use Rattle.std.proofs.lemmas.Option.{slice_get_within}
 use Rattle.cc_base.specs.declared.outcomes.Outcome.{Outcome}
-use Rattle.cc_base.specs.Paths.{Path, In}
+use Rattle.cc_base.specs.Paths.{Path}
 use Rattle.cc_model.specs.declared.checked.Checked.{Checked}
 use Rattle.cc_model.specs.declared.checked.Site.{Site}
 use Rattle.cc_model.specs.declared.checked.SiteKind.TheVariants.{Decision}
@@ -13,12 +13,12 @@ use Rattle.sym_run.specs.declared.trace.Event.{Event}
 use Rattle.sym_run.specs.declared.trace.Trace.{Trace}
 use Rattle.sym_run.specs.Stands.{IsSite}
 use Rattle.sym_run.specs.Traces.{ArePlain, outcome_at}
-use Rattle.search_walks.specs.Covering.{Marks, IsAmong, IsTakenAt, IsTakenUpTo}
+use Rattle.search_walks.specs.Covering.{Marks, IsTakenUpTo}
 use Rattle.search_walks.specs.Counted.{Took}
-use Rattle.search_walks.specs.Distance.{entry, IsDecisionSite}
+use Rattle.search_walks.specs.Distance.{entry}
 use Rattle.search_walks.specs.Made.{RunOf}
 use Rattle.search_base.specs.Setting.{Setting}
-use Rattle.search_walks.specs.Deciding.{Decides, Takes, side_of}
+use Rattle.search_walks.specs.Deciding.{Takes}
 use Rattle.search_base.specs.Terms.{token_in}
 use Rattle.search_walks.proofs.CoverLaws.{marks_by}
 

@@ -1,27 +1,21 @@
 -- What a walk takes from a traced run, from what the run promises.
-use Rattle.std.proofs.Common.{◌≡◌, ℕ, zero, suc, List, [], ◌∷◌, map, All, Option, Some, None, option_map, unwrap_or, slice_get, refl, sym, ap, ap₂, ◌∙◌, subst}
-use Rattle.cc_base.specs.declared.inputs.Input.{Input}
+use Rattle.std.proofs.Common.{◌≡◌, ℕ, zero, suc, List, [], ◌∷◌, map, Option, Some, None, option_map, unwrap_or, slice_get, refl, sym, ap, ap₂, ◌∙◌, subst}
 use Rattle.cc_base.specs.declared.outcomes.Outcome.{Outcome}
-use Rattle.cc_base.specs.Limits.{Limits}
-use Rattle.cc_base.specs.Outcomes.{HasByte}
 use Rattle.cc_model.specs.declared.checked.Checked.{Checked}
 use Rattle.cc_model.specs.declared.checked.Site.{Site}
 use Rattle.cc_model.specs.declared.terms.TermKind.{TermKind}
 use Rattle.cc_model.specs.CheckedProgram.{core_of}
-use Rattle.cc_model.specs.Conditions.{alternatives, alternatives_at, events_of, terms}
+use Rattle.cc_model.specs.Conditions.{alternatives, alternatives_at, terms}
 use Rattle.cc_model.specs.Meaning.{Entry}
-use Rattle.cc_model.specs.Runs.{path_at, end_at}
 use Rattle.cc_model.specs.Tested.{Term as Found}
 use Rattle.cc_model.specs.Traced as traced
 use Rattle.cc_model.specs.Traced.{Asked, asks_nothing, one_of, term}
-use Rattle.cc_laws.specs.LinearForms.{linear}
 use Rattle.sym_run.specs.declared.trace.Choice.{Choice}
 use Rattle.sym_run.specs.declared.trace.Event.{Event}
 use Rattle.sym_run.specs.declared.trace.Term.{Term}
-use Rattle.sym_run.specs.declared.trace.Trace.{Trace}
 use Rattle.sym_run.specs.Asks.{choices_of}
 use Rattle.sym_run.specs.Stands.{AreEvents, AreTerms, IsTerm, of_terms, or_rest, term_in}
-use Rattle.sym_run.specs.Traces.{IsTrace, OffersFew, outcome_at, others_at}
+use Rattle.sym_run.specs.Traces.{others_at}
 use Rattle.search_base.specs.Setting.{column_in}
 use Rattle.search_base.specs.Terms.{token_in, found_at}
 

@@ -1,13 +1,12 @@
 -- The flow of a code backwards, and what is known of distances while they are found layer by layer.
-use Rattle.std.specs.Prelude.{◌≡◌, ◌<◌, ◌≤◌, ◌⊎◌, ◌↔◌, ◌+◌, ◌*◌, ◌/◌, ℕ, suc, Bool, true, false, cond, sum_by, List, [], length, Option, Some, None, slice_get}
-use Rattle.cc_base.specs.Paths.{In}
+use Rattle.std.specs.Prelude.{◌≡◌, ◌<◌, ◌↔◌, ℕ, Bool, List, length, Option, Some, None}
 use Rattle.cc_model.specs.declared.checked.Checked.{Checked}
 use Rattle.cc_model.specs.declared.checked.SiteId.{SiteId}
 use Rattle.tac_lower.specs.declared.instr.Instr.{Instr}
 use Rattle.tac_lower.specs.declared.instr.Instr.TheVariants as instr
 use Rattle.tac_lower.specs.declared.tac.Tac.{Tac}
-use Rattle.tac_lower.specs.Flow.{decided, site_in, LeadsTo, OutcomeLeadsTo}
-use Rattle.search_walks.specs.Distance.{entry, IsDecisionSite, DecidesAt, IsPlain, Flows, Walk}
+use Rattle.tac_lower.specs.Flow.{LeadsTo, OutcomeLeadsTo}
+use Rattle.search_walks.specs.Distance.{entry, IsDecisionSite, DecidesAt, IsPlain}
 use Rattle.search_walks.specs.Rows.{Has}
 
 -- the site of a decision

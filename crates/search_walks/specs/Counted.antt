@@ -1,5 +1,5 @@
 -- What a walk has counted.
-use Rattle.std.specs.Prelude.{ℕ, suc, ◌≡◌, ◌⊎◌, ◌↔◌, ◌||◌, ◌*◌, Bool, true, false, List, [], length, Some, slice_get, map}
+use Rattle.std.specs.Prelude.{ℕ, suc, ◌≡◌, ◌⊎◌, ◌↔◌, ◌||◌, ◌*◌, Bool, true, false, [], length, Some, slice_get, map}
 use Rattle.cc_base.specs.declared.ends.End.{End}
 use Rattle.cc_base.specs.declared.inputs.Input.{Input}
 use Rattle.cc_base.specs.Paths.{In}

@@ -1,5 +1,5 @@
 -- What is known of distances while they are found layer by layer, going backwards from the outcomes that aren't covered.
-use Rattle.std.specs.Prelude.{◌≡◌, ◌<◌, ◌≤◌, ◌⊎◌, ◌↔◌, ◌+◌, ◌*◌, ◌/◌, ℕ, suc, Bool, true, false, sum_by, List, [], ◌∷◌, length, Option, Some, None, slice_get}
+use Rattle.std.specs.Prelude.{◌≡◌, ◌<◌, ◌≤◌, ◌⊎◌, ◌+◌, ◌*◌, ◌/◌, ℕ, suc, Bool, true, false, sum_by, List, length, Option, Some, None, slice_get}
 use Rattle.cc_base.specs.Paths.{In}
 use Rattle.cc_model.specs.declared.checked.Checked.{Checked}
 use Rattle.tac_lower.specs.declared.tac.Tac.{Tac}

@@ -1,6 +1,5 @@
 -- A run that a walk made.
-use Rattle.std.specs.Prelude.{ℕ, ◌≡◌, ◌<◌, ◌≤◌, ◌^◌, List, length, map, Some, slice_get, All}
-use Rattle.cc_base.specs.declared.inputs.Input.{Input}
+use Rattle.std.specs.Prelude.{ℕ, ◌≡◌, ◌<◌, ◌≤◌, ◌^◌, length, map, Some, slice_get, All}
 use Rattle.cc_base.specs.Outcomes.{HasByte}
 use Rattle.cc_base.specs.Paths.{Path}
 use Rattle.cc_model.specs.CheckedProgram.{core_of}

@@ -1,9 +1,8 @@
 -- What a walk as a whole owes.
-use Rattle.std.specs.Prelude.{ℕ, zero, suc, ◌+◌, ◌*◌, ◌<◌, ◌≡◌, ◌↔◌, ◌^◌, Bool, true, false, List, [], ◌∷◌, ◌++◌, length, codes, Option}
+use Rattle.std.specs.Prelude.{ℕ, ◌+◌, ◌*◌, ◌<◌, ◌≡◌, ◌↔◌, ◌^◌, Bool, List, [], ◌∷◌, ◌++◌, length, codes, Option}
 use Rattle.std.specs.Fmt.{decimal}
-use Rattle.cc_base.specs.declared.inputs.Input.{Input}
 use Rattle.cc_base.specs.declared.inputs.Test.{Test}
-use Rattle.cc_base.specs.Paths.{Path, In, Pairwise}
+use Rattle.cc_base.specs.Paths.{In, Pairwise}
 use Rattle.cc_model.specs.declared.checked.Site.{Site}
 use Rattle.cc_model.specs.declared.checked.SiteKind.{SiteKind}
 use Rattle.cc_model.specs.declared.checked.SiteKind.TheVariants.{Decision, Fit, Divisor, Index, Access}
@@ -11,7 +10,6 @@ use Rattle.cc_model.specs.Listing.{Item, test_item, WasRun, count_by, is_run}
 use Rattle.cc_model.specs.Report.{newline, item_lines, term_lines, has_fault}
 use Rattle.cc_model.specs.Tested.{Term, Real}
 use Rattle.cc_outside.specs.Told.{appended, WritesPart}
-use Rattle.sym_run.specs.Traces.{outcome_at}
 use Rattle.search_walks.specs.declared.runs.Made.{Made}
 use Rattle.search_walks.specs.declared.log.WalkSummary.{WalkSummary}
 use Rattle.search_base.specs.Lines.{listed}

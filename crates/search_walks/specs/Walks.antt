@@ -1,10 +1,10 @@
 -- The walks, read along their items: which items come, whatever inputs the solver picks. The walks are this project's own.
-use Rattle.std.specs.Prelude.{ℕ, suc, ◌*◌, ◌<◌, ◌≤◌, ◌≡◌, ◌⊎◌, ◌↔◌, Bool, true, false, List, [], ◌∷◌, ◌++◌, length, map, take, drop, Option, Some, None, slice_get}
+use Rattle.std.specs.Prelude.{ℕ, suc, ◌*◌, ◌<◌, ◌≤◌, ◌≡◌, ◌⊎◌, ◌↔◌, Bool, true, List, [], ◌∷◌, ◌++◌, length, map, take, drop, Some, slice_get}
 use Rattle.cc_base.specs.declared.inputs.Input.{Input}
 use Rattle.cc_base.specs.declared.inputs.Test.{Test}
 use Rattle.cc_base.specs.declared.outcomes.Outcome.{Outcome}
 use Rattle.cc_base.specs.Paths.{Path, In, Ascend, next, BeginsWith}
-use Rattle.cc_model.specs.Listing.{Item, test_item, stray_item, spent_item, WasRun}
+use Rattle.cc_model.specs.Listing.{Item, test_item, stray_item, spent_item}
 use Rattle.cc_model.specs.Tested.{never, spent, turned}
 use Rattle.rand_pcg.specs.Lcg.{Lcg}
 use Rattle.tac_lower.specs.declared.tac.Tac.{Tac}

@@ -1,6 +1,6 @@
 //! The outcomes of decisions that runs took.
 
-ghost use Rattle.std.specs.Prelude.{◌≡◌, ◌<◌, ◌*◌, ◌||◌, length};
+ghost use Rattle.std.specs.Prelude.{◌≡◌, ◌<◌, ◌*◌, length};
 ghost use Rattle.search_walks.specs.Distance.{entry, IsDecisionSite};
 ghost use Rattle.search_base.specs.Terms.{token_in};
 ghost use Rattle.search_walks.specs.Covering.{Marks, IsAmong, IsTakenAt, IsTakenUpTo};

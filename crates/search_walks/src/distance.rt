@@ -1,9 +1,8 @@
 //! The flow distance of outcomes.
 
-ghost use Rattle.std.specs.Prelude.{◌≡◌, ◌<◌, ◌≤◌, ◌*◌, ◌+◌, ℕ, suc, [], false, IfOk, OnOk, length};
+ghost use Rattle.std.specs.Prelude.{◌≡◌, ◌<◌, ◌*◌, ◌+◌, ℕ, suc, [], false, IfOk, OnOk, length};
 ghost use Rattle.cc_base.specs.Paths.{In};
 ghost use Rattle.search_walks.specs.Distance.{AreDistances};
-ghost use Rattle.search_walks.specs.Rows.{Has};
 ghost use Rattle.search_walks.specs.Backwards.{FlowUpTo};
 ghost use Rattle.search_walks.specs.Layers.{IsPassed, Opens, DecisionsOf, Gives, Passing, Starts};
 

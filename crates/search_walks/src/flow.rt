@@ -1,6 +1,6 @@
 //! The flow of a code, backwards: which instructions lead to which, and which outcomes of decisions.
 
-ghost use Rattle.std.specs.Prelude.{◌≡◌, ◌<◌, ◌≤◌, ◌^◌, suc, length, slice_get, Some, None, IfOk, OnOk};
+ghost use Rattle.std.specs.Prelude.{◌≡◌, ◌<◌, suc, length, slice_get, Some, None, IfOk, OnOk};
 ghost use Rattle.search_walks.specs.Distance.{entry, IsPlain};
 ghost use Rattle.search_walks.specs.Rows.{Grows, IsAny};
 ghost use Rattle.search_walks.specs.Backwards.{decision_in, Comes, DecisionAt, FlowUpTo};

@@ -1,6 +1,6 @@
 //! The walks.
 
-ghost use Rattle.std.specs.Prelude.{◌≡◌, ◌≤◌, ◌-◌, ◌∷◌, [], Bool, true, false, length, IfOk, IfErr, OnOk, OnErr, map};
+ghost use Rattle.std.specs.Prelude.{◌≤◌, ◌-◌, ◌∷◌, [], true, false, IfOk, IfErr, OnErr, map};
 ghost use Rattle.cc_model.specs.CheckedProgram.{core_of};
 ghost use Rattle.cc_model.specs.Compiles.{Compiles};
 ghost use Rattle.cc_model.specs.Graphs.{PointsToCells};
@@ -9,10 +9,7 @@ ghost use Rattle.tac_lower.specs.Finished.{first_in};
 ghost use Rattle.tac_lower.specs.Seen.{seen};
 ghost use Rattle.search_base.specs.Lines.{SinkCause};
 ghost use Rattle.search_walks.specs.Output.{WalkedWhole, WalkedPart};
-ghost use Rattle.search_walks.specs.Counted.{Nothing};
 ghost use Rattle.search_walks.specs.Draws.{seeded};
-ghost use Rattle.search_walks.specs.Logged.{Walked, WalkedSome};
-ghost use Rattle.search_walks.specs.Task.{setting_of, Known};
 ghost use Rattle.search_base.specs.Setting.{setting, base_of};
 ghost use Rattle.search_walks.specs.Walks.{candidates as candidates_at, Branches, Passes, Directed};
 

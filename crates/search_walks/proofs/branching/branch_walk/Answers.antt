@@ -1,4 +1,4 @@
-use Rattle.std.proofs.Common.{◌≡◌, ◌≤◌, ◌<◌, inl, inr, length, refl, arith, rules}
+use Rattle.std.proofs.Common.{◌≡◌, ◌≤◌, inl, inr, length, refl, arith, rules}
 use Rattle.search_walks.specs.Branching.{FromBase}
 use Rattle.search_base.specs.Setting.{base_of}
 use Rattle.search_walks.specs.Task.{setting_of}

@@ -1,6 +1,5 @@
-use Rattle.std.proofs.Common.{refl}
 use Rattle.std.proofs.lemmas.Bool.{false≢true}
-use Rattle.search_walks.proofs.CoverLaws.{not_taken, other_taken, side_taken}
+use Rattle.search_walks.proofs.CoverLaws.{not_taken}
 use Rattle.search_walks.proofs.covering.mark_event.Goals as goal
 
 pub returns-then-not-is_decision : goal.returns-then-not-is_decision

@@ -1,5 +1,4 @@
-use Rattle.std.proofs.Common.{◌≡◌, ◌∙◌, length, arith, subst}
-use Rattle.search_walks.specs.Covering.{Marks, IsAmong}
+use Rattle.std.proofs.Common.{◌≡◌, ◌∙◌, length, arith}
 use Rattle.search_walks.proofs.CoverLaws.{among_none, among_more, among_at}
 use Rattle.search_walks.proofs.covering.mark_sites.Goals as goal
 

@@ -1,4 +1,4 @@
-use Rattle.std.proofs.Common.{refl, arith, sym, subst, ◌∙◌}
+use Rattle.std.proofs.Common.{refl, arith, subst, ◌∙◌}
 use Rattle.search_walks.specs.Course.{Went}
 use Rattle.search_walks.specs.Task.{setting_of}
 use Rattle.search_base.proofs.OnLaws.{on_err}

@@ -1,7 +1,6 @@
 use Rattle.std.proofs.Common.{arith, refl, sym, ap, ◌∙◌, slice_get, length, ◌<◌}
 use Rattle.std.proofs.lemmas.Bool.{false≢true}
 use Rattle.std.proofs.lemmas.Option.{slice_get-get_or}
-use Rattle.search_walks.specs.Distance.{entry}
 use Rattle.search_walks.proofs.NearLaws.{entry_below, site_none, site_other, site_is}
 use Rattle.search_walks.proofs.directed.distance_at_site.Goals as goal
 

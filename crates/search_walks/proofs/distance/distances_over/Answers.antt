@@ -1,4 +1,4 @@
-use Rattle.std.proofs.Common.{rules, ◌≡◌, ◌<◌, [], ◌∙◌, ap, length, subst, arith}
+use Rattle.std.proofs.Common.{rules, ◌≡◌, ◌<◌, ◌∙◌, ap, length, subst, arith}
 use Rattle.search_walks.specs.Layers.{Opens, DecisionsOf}
 use Rattle.search_walks.proofs.RowLaws.{empty_of}
 use Rattle.search_walks.proofs.LayerLaws.{found_first, layer_over, all_found}

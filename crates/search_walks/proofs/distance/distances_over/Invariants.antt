@@ -1,6 +1,5 @@
 use Rattle.std.proofs.Common.{◌≡◌, ◌+◌, [], length}
 use Rattle.search_walks.specs.Layers.{Found, nones}
-use Rattle.search_walks.proofs.LayerLaws.{are_distances}
 use Rattle.search_walks.proofs.distance.distances_over.Given as goal
 
 abbrev pub invariant-layers : goal.invariant-layers

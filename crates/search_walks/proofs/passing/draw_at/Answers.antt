@@ -1,4 +1,4 @@
-use Rattle.std.proofs.Common.{◌≡◌, ◌≤◌, ◌<◌, inl, [], length, slice_get, ap, sym, ◌∙◌, refl, subst, arith, rules}
+use Rattle.std.proofs.Common.{◌≡◌, inl, [], length, slice_get, ap, sym, ◌∙◌, refl, arith, rules}
 use Rattle.search_walks.specs.Task.{setting_of}
 use Rattle.sym_run.specs.Traces.{outcome_at}
 use Rattle.search_walks.proofs.DrawLaws.{events_below, some_in, drawn_none, drawn_own, drawn_other}

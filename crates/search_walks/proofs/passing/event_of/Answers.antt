@@ -1,4 +1,4 @@
-use Rattle.std.proofs.Common.{◌≡◌, ◌<◌, length, slice_get, Some, get_or, ap, sym, ◌∙◌, subst, arith}
+use Rattle.std.proofs.Common.{length, get_or, ap, ◌∙◌, arith}
 use Rattle.search_walks.proofs.OfferLaws.{got_at}
 use Rattle.search_walks.proofs.passing.event_of.Goals as goal
 

@@ -1,4 +1,4 @@
-use Rattle.std.proofs.Common.{◌≡◌, ◌≤◌, ◌<◌, inl, inr, length, refl, ◌∙◌, arith, rules}
+use Rattle.std.proofs.Common.{◌≡◌, ◌≤◌, inl, inr, length, refl, ◌∙◌, arith, rules}
 use Rattle.search_walks.specs.Passing.{current_of}
 use Rattle.search_walks.specs.Task.{setting_of}
 use Rattle.search_base.proofs.OnLaws.{on_err}

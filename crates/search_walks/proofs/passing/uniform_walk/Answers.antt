@@ -1,4 +1,4 @@
-use Rattle.std.proofs.Common.{◌≡◌, ◌≤◌, ◌<◌, ◌-◌, ◌⊎◌, suc, inl, inr, length, refl, ◌∙◌, arith, rules}
+use Rattle.std.proofs.Common.{◌≡◌, ◌-◌, ◌⊎◌, refl, arith, rules}
 use Rattle.search_walks.specs.Passing.{FromStart}
 use Rattle.search_base.specs.Setting.{base_of}
 use Rattle.search_walks.specs.Task.{setting_of}

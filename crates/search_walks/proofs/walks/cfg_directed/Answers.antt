@@ -1,4 +1,4 @@
-use Rattle.std.proofs.Common.{◌∷◌, [], refl, arith, sym, subst, ◌∙◌}
+use Rattle.std.proofs.Common.{◌∷◌, [], refl}
 use Rattle.search_walks.specs.Course.{FromBase}
 use Rattle.search_base.specs.Setting.{setting, base_of}
 use Rattle.search_walks.specs.Walks.{candidates, directed_cut_off}

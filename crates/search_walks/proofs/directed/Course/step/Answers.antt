@@ -1,4 +1,4 @@
-use Rattle.std.proofs.Common.{◌≡◌, ◌<◌, refl, arith, ap, ◌∙◌, Some, None, length}
+use Rattle.std.proofs.Common.{◌<◌, refl, arith, ap, ◌∙◌, Some, None, length}
 use Rattle.search_walks.specs.Task.{setting_of}
 use Rattle.search_walks.specs.declared.log.Log.{Log}
 use Rattle.search_walks.proofs.LedLaws.{on_led, place_there, found, less_few, first_at, event_there, is_other, ready_less, ready_fresh, fewer_none, fewer_run, same_log, tried_as, is_made, full, ends_here, cut_within, cut_new, led_none, led_old, led_new}

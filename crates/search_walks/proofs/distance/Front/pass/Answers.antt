@@ -1,4 +1,3 @@
-use Rattle.std.proofs.Common.{◌∙◌}
 use Rattle.search_walks.proofs.LayerLaws.{passing_none, passing_more}
 use Rattle.search_walks.proofs.distance.Front.pass.Goals as goal
 

@@ -1,5 +1,4 @@
 use Rattle.std.proofs.Common.{subst, sym}
-use Rattle.std.specs.Result.{OnOk}
 use Rattle.tac_lower.specs.Flow.{AreSuccessors}
 use Rattle.search_walks.proofs.FlowLaws.{more_edges}
 use Rattle.search_base.proofs.OnLaws.{on_ok}

@@ -1,4 +1,4 @@
-use Rattle.std.proofs.Common.{◌≡◌, suc, arith, map, length, ◌⊎◌, ◌↔◌, ◌||◌, ap, ◌∙◌, subst}
+use Rattle.std.proofs.Common.{arith, map, length, ◌⊎◌, ◌↔◌, ◌||◌, ap, ◌∙◌, subst}
 use Rattle.cc_base.specs.Paths.{In}
 use Rattle.search_walks.specs.Covering.{Marks, IsTakenUpTo}
 use Rattle.search_walks.specs.Task.{setting_of}

@@ -1,5 +1,5 @@
-use Rattle.std.proofs.Common.{◌≡◌, ◌≤◌, ◌<◌, None, length, sym, subst, arith, refl, rules}
-use Rattle.search_walks.specs.Passing.{current_of, StandsAt, DrawnAt}
+use Rattle.std.proofs.Common.{◌≡◌, None, subst, arith, refl, rules}
+use Rattle.search_walks.specs.Passing.{current_of, DrawnAt}
 use Rattle.search_walks.specs.Steps.{TriedOne}
 use Rattle.search_walks.specs.Task.{setting_of}
 use Rattle.search_base.proofs.OnLaws.{on_err}
