@@ -13,6 +13,7 @@ use Rattle.cc_model.specs.declared.commands.RunWords.{RunWords}
 use Rattle.cc_model.specs.declared.commands.TraceWords.{TraceWords}
 use Rattle.cc_model.specs.declared.checked.SiteKind.{SiteKind}
 use Rattle.cc_model.specs.declared.checked.SiteKind.TheVariants as site
+use Rattle.cc_model.specs.CheckedProgram.{core_of}
 use Rattle.cc_model.specs.Core.{Program}
 use Rattle.cc_model.specs.Graphs.{PointsToCells}
 use Rattle.cc_model.specs.Listing.{Item, test_item, past_item, stray_item, spent_item, unrun_item, Listing, counts_of, WasRun}
@@ -22,7 +23,7 @@ use Rattle.cc_model.specs.Reads.{shallow}
 use Rattle.cc_model.specs.Report.{newline, bounds_line, item_line, item_lines, term_lines, last_line, complete_line, incomplete_line, report_text, total}
 use Rattle.cc_model.specs.Runs.{IsInput, params_of, path_of, run_of, path_at}
 use Rattle.cc_model.specs.Source.{IsProgram, text_at}
-use Rattle.cc_model.specs.Tested.{Real, tested}
+use Rattle.cc_model.specs.Tested.{Term, Real, tested}
 use Rattle.cc_laws.proofs.Pointed.{points_to_cells}
 use Rattle.cc_outside.specs.Held.{Held}
 use Rattle.cc_outside.specs.Told.{appended}
@@ -35,13 +36,17 @@ use Rattle.report_words.proofs.Bytes.{all_first, all_later}
 use Rattle.replay.specs.Files.{IsTestsFile}
 use Rattle.replay.specs.Forms as form
 use Rattle.replay.specs.ReportFiles.{IsGoodItem, ran, AreBounds}
-use Rattle.replay.proofs.ReportLines.{IsOtherLine, event_line_is, complete_line_is, incomplete_line_is}
+use Rattle.replay.proofs.ReportLines.{IsOtherLine, event_line_is, complete_line_is, incomplete_line_is, ended_line_is}
 use Rattle.replay.proofs.ReportFiles.{HasTests, other_line, test_alone, file_is, report_is}
-use Rattle.search_dfs.specs.Output.{HasTestLine, CanBeRead}
+use Rattle.search_base.specs.Readable.{HasTestLine, CanBeRead, IsNarrow}
+use Rattle.search_walks.specs.declared.log.WalkSummary.{WalkSummary}
+use Rattle.search_walks.specs.Output.{HasNumbers, ended_line}
 use Rattle.concolic_cli.specs.Listings.{test_at, HasNarrowLines}
-use Rattle.concolic_cli.specs.ReportFiles.{WroteTestsFile, WroteTestFile}
+use Rattle.concolic_cli.specs.ReportFiles.{WroteTestsFile, WroteTestFile, WroteWalkFile}
 use Rattle.concolic_cli.specs.Session.{Wrote}
-use Rattle.concolic_cli.specs.Tasks.{list_task, trace_task}
+use Rattle.concolic_cli.specs.Tasks.{list_task, walk_task, trace_task}
+use Rattle.concolic_cli.specs.WalkReports.{walk_text}
+use Rattle.concolic_cli.proofs.WalkLaws.{begins_run}
 use Rattle.concolic_cli.specs.TraceText.{site_text, event_text, event_lines, trace_text, CanBeTold}
 
 -- ---- the bounds of the words
@@ -121,6 +126,15 @@ listing_is_file p b l well bounds same good n =
     let r = report_is p b l.items l.terms (last_line l) bounds good (λ e i. let w = n.terms e i in record { line = w.line; col = w.col }) (last_is p b l n) in
     (r.0, subst (λ c. IsTestsFile p (bounds_line c ++ item_lines l.items ++ term_lines l.terms ++ last_line l) b (ran l.items) r.0) (sym same) r.1)
 
+walk_is_file : (p : Program) (b : Limits) (items : List Item) (terms : List Term) (summary : WalkSummary) → PointsToCells p.layouts (params_of p) → AreBounds b → ((x : Item) → In x items → IsGoodItem p b x) →
+    ((e : Term) → In e terms → IsNarrow e) → HasNumbers summary → (lines : List ℕ) × IsTestsFile p (walk_text b items terms summary) b (ran items) lines
+walk_is_file p b items terms summary well bounds good narrow n =
+    report_is p b items terms (ended_line summary) bounds good (λ e i. let w = narrow e i in record { line = w.line; col = w.col }) (ended_line_is p b summary.runs summary.covered summary.outcomes n.runs n.covered n.outcomes)
+
+-- of the program that the bytes are, the tests are real
+walk_real : (bytes entry : List ℕ) (p : Program) (i : IsProgram bytes entry p) (b : Limits) (items : List Item) → ((t : Test) → WasRun t items → Real (tested (core_of i.checked) b) t) → (t : Test) → WasRun t items → Real (tested p b) t
+walk_real bytes entry p i b items h t w = subst (λ q. Real (tested q b) t) (sym i.core) (h t w)
+
 -- ---- what was written
 
 pub file_of_run : (l : List (List ℕ)) (held : Option Held) (old new : Option (List ℕ)) (r : RunWords) (after : Option Path) (status : ℕ) → Accepted l (Run r) → Wrote held old new (list_task l r after) status →
@@ -136,6 +150,28 @@ file_of_run l held old new r after status a w =
       bytes = w.bytes;
       program = h.program;
       listing = h.listing;
+      lines = f.0;
+      read = w.read;
+      source = h.source;
+      written = w.written ∙ ap (appended old) h.text_is;
+      file = f.1;
+    }
+
+pub file_of_walk : (l : List (List ℕ)) (held : Option Held) (old new : Option (List ℕ)) (r : RunWords) (status : ℕ) → Accepted l (Run r) → Wrote held old new (walk_task l r) status → WroteWalkFile l held old new r
+file_of_walk l held old new r status a w =
+    let h = w.report in
+    let k = h.whole in
+    let bounds = run_bounds l r a in
+    let well = points w.bytes _ h.program h.source in
+    let n = k.numbers in
+    let f = walk_is_file h.program r.bounds h.items h.terms h.summary well bounds
+    (good_items h.program r.bounds well bounds h.items (walk_real w.bytes _ h.program h.source r.bounds h.items (k.walks).real) (λ i q j. absurd (begins_run r.strategy _ _ r.runs r.seed false h.items (k.walks).begins i q j)) k.few) k.narrow n in
+    record {
+      bytes = w.bytes;
+      program = h.program;
+      items = h.items;
+      terms = h.terms;
+      summary = h.summary;
       lines = f.0;
       read = w.read;
       source = h.source;

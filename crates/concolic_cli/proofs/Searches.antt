@@ -23,11 +23,11 @@ use Rattle.cc_model.specs.Tested.{Layer, Term, Offers, Tested, tested}
 use Rattle.cc_model.specs.Traced.{Asked, asks_nothing, one_of, term, Event}
 use Rattle.cc_laws.specs.LinearForms.{linear}
 use Rattle.search_dfs.specs.Laws.{Laws}
-use Rattle.search_dfs.specs.Output.{CanBeRead}
-use Rattle.search_dfs.specs.Setting.{setting, layer_of}
+use Rattle.search_base.specs.Readable.{CanBeRead}
+use Rattle.search_base.specs.Setting.{setting, layer_of}
 use Rattle.search_dfs.proofs.Counting as count
 use Rattle.search_dfs.proofs.Enumerating as enumerating
-use Rattle.search_dfs.proofs.Paths.{length_next}
+use Rattle.search_base.proofs.PathLaws.{length_next}
 use Rattle.concolic_cli.specs.Listings.{HoldsPaths, IsEasy, HasNarrowLines, IsListing, MissesNoMore, room, searched}
 
 -- ---- an easy program

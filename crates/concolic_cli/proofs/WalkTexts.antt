@@ -17,7 +17,7 @@ use Rattle.input_map.proofs.BaseInputs.{base_is_input}
 use Rattle.tac_lower.specs.declared.tac.Tac.{Tac}
 use Rattle.search_walks.specs.declared.log.WalkSummary.{WalkSummary}
 use Rattle.search_walks.specs.Output.{WalkedWhole, WalkedPart, ended_line}
-use Rattle.search_walks.specs.Setting.{Setting, setting, layer_of}
+use Rattle.search_base.specs.Setting.{Setting, setting, layer_of}
 use Rattle.concolic_cli.specs.declared.prepared.Compiled.{Compiled}
 use Rattle.concolic_cli.specs.Compiling.{IsCompiled}
 use Rattle.concolic_cli.specs.Loaded.{ReadAs}
@@ -127,9 +127,14 @@ module _ (c : Checked) (t : Tac) (strategy : Strategy) (b : Limits) (runs budget
           items = x.items;
           terms = x.terms;
           summary = summary;
-          walks = record { begins = x.walked; real = tested_real c b budget x.items x.real };
-          are_terms = x.are_terms;
-          sums = x.sums;
+          whole = record {
+            walks = record { begins = x.walked; real = tested_real c b budget x.items x.real };
+            are_terms = x.are_terms;
+            sums = x.sums;
+            few = x.few;
+            narrow = x.narrow;
+            numbers = x.numbers;
+          };
           written = w ∙ ap (λ u. appended walked u) e ∙ ap (λ m. appended m (ended_line summary)) before_last ∙ appended-appended old before (ended_line summary);
           verdict = v;
         }
@@ -154,9 +159,7 @@ module _ (held : Option Held) (old new : Option (List ℕ)) (file entry bytes by
       items = w.items;
       terms = w.terms;
       summary = w.summary;
-      walks = w.walks;
-      are_terms = w.are_terms;
-      sums = w.sums;
+      whole = w.whole;
       text_is = refl;
       verdict = w.verdict;
     };

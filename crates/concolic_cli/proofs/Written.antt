@@ -14,8 +14,8 @@ use Rattle.replay.specs.ReportFiles.{AreSmall}
 use Rattle.search_dfs.specs.declared.search.Summary.{Summary}
 use Rattle.search_dfs.specs.Explored.{Sums, HasNumbers, Explored, ExploredSome}
 use Rattle.search_dfs.specs.Laws.{Laws}
-use Rattle.search_dfs.specs.Output.{IsNarrow}
-use Rattle.search_dfs.specs.Setting.{setting, layer_of}
+use Rattle.search_base.specs.Readable.{IsNarrow}
+use Rattle.search_base.specs.Setting.{setting, layer_of}
 use Rattle.concolic_cli.specs.declared.refusal.Refusal.{Refusal}
 use Rattle.concolic_cli.specs.declared.refusal.Refusal.TheVariants as refused
 use Rattle.concolic_cli.specs.Compiling.{WroteListing, WroteSome, IsLastLine}

@@ -21,8 +21,8 @@ use Rattle.cc_model.specs.Tested.{Term, tested, Layer, Offers}
 use Rattle.cc_model.specs.Listing.{Item, Listing, spent_item, unrun_item, count_by, is_stray, path_count, run_count, counts_of, tests, IsComplete, Above, Sound, Licensed, Covered, Enumerates, EnumeratesBut}
 use Rattle.cc_laws.specs.LinearForms.{linear}
 use Rattle.replay.specs.ReportFiles.{AreSmall}
-use Rattle.search_dfs.specs.Below.{column_in}
-use Rattle.search_dfs.specs.Output.{CanBeRead, IsNarrow}
+use Rattle.search_base.specs.Setting.{column_in}
+use Rattle.search_base.specs.Readable.{CanBeRead, IsNarrow}
 
 -- the test of a run
 abbrev pub test_at : Program → Limits → Input → Test

@@ -2,6 +2,7 @@
 use Rattle.std.specs.Prelude.{ℕ, ◌-◌, ◌≡◌, Bool, true, false, List, [], ◌∷◌, ◌++◌, Option, if◌then◌else◌}
 use Rattle.cc_base.specs.declared.inputs.Test.{Test}
 use Rattle.cc_base.specs.Limits.{Limits}
+use Rattle.cc_base.specs.Paths.{In}
 use Rattle.cc_model.specs.declared.checked.Checked.{Checked}
 use Rattle.cc_model.specs.declared.commands.Strategy.{Strategy}
 use Rattle.cc_model.specs.declared.commands.Strategy.TheVariants.{Dfs, Random, UniformRandom, Cfg}
@@ -15,8 +16,9 @@ use Rattle.cc_outside.specs.Told.{appended, WritesPart}
 use Rattle.tac_lower.specs.declared.tac.Tac.{Tac}
 use Rattle.search_walks.specs.declared.log.WalkSummary.{WalkSummary}
 use Rattle.search_walks.specs.Draws.{seeded}
-use Rattle.search_walks.specs.Output.{AreTerms, Sums, Begins, ended_line}
-use Rattle.search_walks.specs.Setting.{Setting, setting, base_of}
+use Rattle.search_walks.specs.Output.{AreTerms, Sums, HasNumbers, Begins, ended_line}
+use Rattle.search_base.specs.Readable.{CanBeRead, IsNarrow}
+use Rattle.search_base.specs.Setting.{Setting, setting, base_of}
 use Rattle.search_walks.specs.Walks.{candidates, Branches, Passes, Directed}
 use Rattle.concolic_cli.specs.Compiling.{Compiles}
 
@@ -37,6 +39,15 @@ pub record IsWalk (c : Checked) (t : Tac) (strategy : Strategy) (b : Limits) (ru
 abbrev pub walk_text : Limits → List Item → List Term → WalkSummary → List ℕ
 walk_text b items terms w = bounds_line b ++ item_lines items ++ term_lines terms ++ ended_line w
 
+-- a whole walk: its items, the terms of their runs, and what was counted of them; each line of it can be read again
+pub record IsWhole (c : Checked) (t : Tac) (strategy : Strategy) (b : Limits) (runs budget seed : ℕ) (items : List Item) (terms : List Term) (summary : WalkSummary) : Type 0 where
+  pub walks : IsWalk c t strategy b runs budget seed false items
+  pub are_terms : AreTerms (setting c b budget) items terms
+  pub sums : Sums (setting c b budget) items summary
+  pub few : (x : Item) → In x items → CanBeRead x
+  pub narrow : (e : Term) → In e terms → IsNarrow e
+  pub numbers : HasNumbers summary
+
 -- the text is the report of a whole walk over the program that the bytes are, with the terms of its runs and what was counted of
 -- them; the status is 1 where a run ends as a fault
 pub record WalksAs (bytes entry : List ℕ) (strategy : Strategy) (b : Limits) (runs budget seed : ℕ) (text : List ℕ) (status : ℕ) : Type 0 where
@@ -47,9 +58,7 @@ pub record WalksAs (bytes entry : List ℕ) (strategy : Strategy) (b : Limits) (
   pub items : List Item
   pub terms : List Term
   pub summary : WalkSummary
-  pub walks : IsWalk (source.checked) tac strategy b runs budget seed false items
-  pub are_terms : AreTerms (setting (source.checked) b budget) items terms
-  pub sums : Sums (setting (source.checked) b budget) items summary
+  pub whole : IsWhole (source.checked) tac strategy b runs budget seed items terms summary
   pub text_is : text ≡ walk_text b items terms summary
   pub verdict : status ≡ (if summary.fault then 1 else 0)
 
@@ -73,9 +82,7 @@ module _ (c : Checked) (t : Tac) (strategy : Strategy) (b : Limits) (runs budget
     pub items : List Item
     pub terms : List Term
     pub summary : WalkSummary
-    pub walks : IsWalk c t strategy b runs budget seed false items
-    pub are_terms : AreTerms (setting c b budget) items terms
-    pub sums : Sums (setting c b budget) items summary
+    pub whole : IsWhole c t strategy b runs budget seed items terms summary
     pub written : new ≡ appended old (walk_text b items terms summary)
     pub verdict : status ≡ (if summary.fault then 1 else 0)
 

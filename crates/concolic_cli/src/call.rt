@@ -23,7 +23,7 @@ ghost use Rattle.concolic_cli.specs.Listings.{IsEasy, HoldsPaths, room};
 ghost use Rattle.concolic_cli.specs.Made.{made_source, made_entry};
 ghost use Rattle.concolic_cli.specs.Named.{names_in};
 ghost use Rattle.concolic_cli.specs.Refusals.{bad_word_text, Says};
-ghost use Rattle.concolic_cli.specs.ReportFiles.{WroteTestsFile, WroteTestFile};
+ghost use Rattle.concolic_cli.specs.ReportFiles.{WroteTestsFile, WroteTestFile, WroteWalkFile};
 ghost use Rattle.concolic_cli.specs.Session.{Wrote, WroteLast};
 ghost use Rattle.concolic_cli.specs.Sources.{Refuses};
 ghost use Rattle.concolic_cli.specs.Tasks.{Task, Asks, IsAfter, word_of, list_task, walk_task, trace_task, replay_task};
@@ -382,9 +382,11 @@ pub fn concolic<F: Files, K: Sink, E: Sink>(
     ensures traced { (trace : TraceWords) → Accepted (texts words.now) (Trace trace) → result.0 ≤ 1
         → Wrote (F.held files.old) (K.written out.old) (K.written out.new) (trace_task (texts words.now) trace) result.0 }
 
-    // What `run` and `trace` wrote is a tests file of the program, as it stands.
+    // What `run`, with `-dfs` or a walk, and `trace` wrote is a tests file of the program, as it stands.
     ensures run_file { (run : RunWords) → Accepted (texts words.now) (Run run) → run.strategy ≡ Dfs → In result.0 (0 ∷ 1 ∷ 10 ∷ 11 ∷ [])
         → WroteTestsFile (texts words.now) (F.held files.old) (K.written out.old) (K.written out.new) run }
+    ensures walk_file { (run : RunWords) → Accepted (texts words.now) (Run run) → (run.strategy ≡ Dfs → ⊥) → In result.0 (0 ∷ 1 ∷ [])
+        → WroteWalkFile (texts words.now) (F.held files.old) (K.written out.old) (K.written out.new) run }
     ensures trace_file { (trace : TraceWords) → Accepted (texts words.now) (Trace trace) → result.0 ≤ 1
         → WroteTestFile (texts words.now) (F.held files.old) (K.written out.old) (K.written out.new) trace }
 

@@ -6,7 +6,7 @@ ghost use Rattle.cc_model.specs.Graphs.{PointsToCells};
 ghost use Rattle.cc_model.specs.Runs.{params_of};
 ghost use Rattle.search_dfs.specs.Explored.{Explored, ExploredSome};
 ghost use Rattle.search_dfs.specs.Laws.{Laws};
-ghost use Rattle.search_dfs.specs.Setting.{setting, layer_of};
+ghost use Rattle.search_base.specs.Setting.{setting, layer_of};
 ghost use Rattle.concolic_cli.specs.Compiling.{Compiles, WroteListing, WroteSome};
 ghost use Rattle.concolic_cli.specs.Session.{WriteCause};
 

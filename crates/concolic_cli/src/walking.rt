@@ -6,7 +6,7 @@ ghost use Rattle.cc_model.specs.CheckedProgram.{core_of};
 ghost use Rattle.cc_model.specs.Graphs.{PointsToCells};
 ghost use Rattle.cc_model.specs.Runs.{params_of};
 ghost use Rattle.search_walks.specs.Output.{WalkedWhole, WalkedPart, ended_line};
-ghost use Rattle.search_walks.specs.Setting.{setting};
+ghost use Rattle.search_base.specs.Setting.{setting};
 ghost use Rattle.concolic_cli.specs.Compiling.{Compiles};
 ghost use Rattle.concolic_cli.specs.Session.{WriteCause};
 ghost use Rattle.concolic_cli.specs.WalkReports.{WalkOf, WroteWalk, WroteWalkSome};

@@ -57,7 +57,12 @@ fn test_of(alloc: Global, trace: &Trace, path: &PathText) -> Result<Test, NoMemo
 }
 
 /// A word, and the test of a run.
-fn word_and_test(alloc: Global, word: &[u8], trace: &Trace, path: &PathText) -> Result<Vec<u8>, NoMemory>
+fn word_and_test(
+    alloc: Global,
+    word: &[u8],
+    trace: &Trace,
+    path: &PathText,
+) -> Result<Vec<u8>, NoMemory>
     requires { All HasByte path.now }
     ensures { IfOk result (λ line. line.items ≡ word.now ++ test_text (listed trace.now path.now)) }
 {

@@ -2,7 +2,7 @@
 use Rattle.concolic_cli.proofs.Calls.{ending}
 use Rattle.concolic_cli.proofs.Commands.{has_after}
 use Rattle.concolic_cli.proofs.Promises as promise
-use Rattle.concolic_cli.proofs.ReportFiles.{file_of_run, file_of_trace}
+use Rattle.concolic_cli.proofs.ReportFiles.{file_of_run, file_of_walk, file_of_trace}
 use Rattle.concolic_cli.proofs.call.concolic.Goals as goal
 
 pub returns-clause-headline : goal.returns-clause-headline
@@ -94,6 +94,9 @@ returns-clause-refused_tests g c = λ r bytes file line a i h. promise.refused_t
 
 pub returns-clause-run_file : goal.returns-clause-run_file
 returns-clause-run_file g c = λ run a v i. let f = has_after _ run a in file_of_run _ _ _ _ run f.0 _ a (promise.listed _ _ c.one_command.ensures (ending _ _ c.answer.ensures.answered) run f.0 a v f.1 i)
+
+pub returns-clause-walk_file : goal.returns-clause-walk_file
+returns-clause-walk_file g c = λ run a v i. file_of_walk _ _ _ _ run _ a (promise.walked _ _ c.one_command.ensures (ending _ _ c.answer.ensures.answered) run a v i)
 
 pub returns-clause-trace_file : goal.returns-clause-trace_file
 returns-clause-trace_file g c = λ trace a i. file_of_trace _ _ _ _ trace _ a (promise.traced _ _ c.one_command.ensures (ending _ _ c.answer.ensures.answered) trace a i)
