@@ -4,3 +4,4 @@ pub mod TermLaws
 pub mod ChoiceLaws
 pub mod LineLaws
 pub mod OnLaws
+pub mod FirstLaws

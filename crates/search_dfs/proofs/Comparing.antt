@@ -4,7 +4,7 @@ use Rattle.cc_base.specs.declared.outcomes.Outcome.{Outcome}
 use Rattle.cc_base.specs.Outcomes.{byte_of}
 use Rattle.cc_base.specs.Paths.{Path, Before, BeginsWith}
 use Rattle.search_base.proofs.PathLaws.{before_irr, before_trans, before_longer, compare_paths, begins_self, byte_tells, order_of}
-use Rattle.search_dfs.proofs.Firsts.{first_both, all_same}
+use Rattle.search_base.proofs.FirstLaws.{first_both, all_same}
 
 heads : (x z : Outcome) (a b : Path) → x ∷ a ≡ z ∷ b → x ≡ z
 heads x z a b e = cc e

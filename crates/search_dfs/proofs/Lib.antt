@@ -4,7 +4,6 @@ pub mod Whole
 pub mod Counting
 pub mod LayerLaws
 pub mod Outputs
-pub mod Firsts
 pub mod Terms
 pub mod Loop
 pub mod Down

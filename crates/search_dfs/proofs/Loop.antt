@@ -9,6 +9,7 @@ use Rattle.search_base.specs.Setting.{Setting, layer_of, others_of, path_of}
 use Rattle.search_dfs.specs.declared.open.Pending.{Pending}
 use Rattle.search_dfs.specs.Setting.{TraceOf, ChoicesOf, own_at}
 use Rattle.search_dfs.specs.Stack.{left_at, path_of_run, Level, Levels, Does, Rest, Under}
+use Rattle.search_base.proofs.FirstLaws.{begins_first, first_whole}
 
 -- ---- prefixes
 
@@ -16,17 +17,6 @@ pub first_own : (k : ℕ) (l : Path) → k < length l → take (suc k) l ≡ nex
 first_own k [] h = absurd (omega (arith, h))
 first_own zero (o ∷ l) h = refl
 first_own (suc k) (o ∷ l) h = ap (λ m. o ∷ m) (first_own k l (omega (arith, h)))
-
-pub begins_first : (k : ℕ) (l : Path) → BeginsWith l (take k l)
-begins_first zero l = (l, refl)
-begins_first (suc k) [] = ([], refl)
-begins_first (suc k) (o ∷ l) = let h = begins_first k l in (h.0, ap (λ m. o ∷ m) h.1)
-
-pub first_whole : (k : ℕ) (l : Path) → k ≡ length l → l ≡ take k l
-first_whole zero [] h = refl
-first_whole zero (o ∷ l) h = absurd (omega (arith, h))
-first_whole (suc k) [] h = refl
-first_whole (suc k) (o ∷ l) h = ap (λ m. o ∷ m) (first_whole k l (omega (arith, h)))
 
 pub length_first : (k : ℕ) (l : Path) → k ≤ length l → length (take k l) ≡ k
 length_first zero l h = refl

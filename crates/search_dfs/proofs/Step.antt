@@ -16,7 +16,8 @@ use Rattle.search_dfs.specs.Turns.{levels_of, runs_of, Ready, Taken, Matches, St
 use Rattle.search_dfs.specs.Output.{Items, Out, Wrote, WroteSome}
 use Rattle.path_tree.specs.Branches.{Branches}
 use Rattle.search_dfs.proofs.Outputs.{some_none}
-use Rattle.search_dfs.proofs.Loop.{one, own, entered, cut_off, first_own, begins_first, length_first}
+use Rattle.search_base.proofs.FirstLaws.{begins_first}
+use Rattle.search_dfs.proofs.Loop.{one, own, entered, cut_off, first_own, length_first}
 use Rattle.search_dfs.specs.Setting.{Answered}
 use Rattle.flip_solve.specs.declared.flipping.Turned.{Turned}
 

@@ -2,7 +2,6 @@ pub mod RowLaws
 pub mod FlowLaws
 pub mod LayerLaws
 pub mod StepLaws
-pub mod FirstLaws
 pub mod TraceLaws
 pub mod MadeLaws
 pub mod CoverLaws

@@ -1,7 +1,7 @@
 use Rattle.std.proofs.Common.{sym, arith, get_or}
 use Rattle.cc_base.specs.declared.outcomes.Outcome.TheVariants.{Zero}
 use Rattle.search_dfs.proofs.Comparing.{ends_first, differ_at, not_both, not_before}
-use Rattle.search_dfs.proofs.Firsts.{any_default}
+use Rattle.search_base.proofs.FirstLaws.{any_default}
 use Rattle.search_dfs.proofs.order.is_before.Goals as goal
 
 pub returns-then-i-a-clause-yes : goal.returns-then-i-a-clause-yes
