@@ -1,5 +1,6 @@
 -- The outcomes of an event, and what a new run tells.
 use Rattle.std.proofs.Common.{◌≡◌, ◌≢◌, ℕ, zero, suc, ◌-◌, ◌^◌, ◌<◌, ◌≤◌, ◌⊎◌, ◌↔◌, List, [], ◌∷◌, ◌++◌, length, map, take, Option, Some, None, MatchOption, All, slice_get, slice_index_or, refl, sym, ap, ◌∙◌, subst, arith, get_or}
+use Rattle.std.proofs.lemmas.List.{length-map}
 use Rattle.cc_base.specs.declared.inputs.Input.{Input}
 use Rattle.cc_base.specs.declared.outcomes.Outcome.{Outcome}
 use Rattle.cc_base.specs.declared.outcomes.Outcome.TheVariants.{Zero}
@@ -46,7 +47,7 @@ module _ (s : Setting) where
     events_path = (tr.trace).path ∙ sym tr.path
 
     pub events_long : length t.events ≡ length p
-    events_long = sym (map_long outcome_at t.events) ∙ ap length events_path
+    events_long = sym (length-map t.events outcome_at) ∙ ap length events_path
 
     pub event_few : (k : ℕ) (e : Event) → n ≤ k → k < length p → e ≡ get_or t.events k e → OffersFew e
     event_few k e le h f = let m = events_long in (tr.trace).few k e le (there_is t.events k e (omega (arith, h, m)) f)
@@ -76,7 +77,7 @@ module _ (s : Setting) where
           trace = told;
           path = e ∙ told.path;
           end = told.end;
-          short = let n = map_long outcome_at t.events in let m : length p ≡ length (map outcome_at t.events) = ap length e in omega (arith, n, m, short);
+          short = let n = length-map t.events outcome_at in let m : length p ≡ length (map outcome_at t.events) = ap length e in omega (arith, n, m, short);
           few = range.depth_high;
           bytes = subst (All HasByte) (sym e) told.bytes;
           few_cells = subst (λ (h : Input). length h.cells < 10 ^ 18) (sym it.input) cells;

@@ -7,7 +7,7 @@ use Rattle.cc_model.specs.Listing.{Counts, WasRun}
 use Rattle.cc_model.specs.Report.{item_lines, term_lines, has_fault}
 use Rattle.cc_outside.specs.Told.{appended, WritesPart}
 use Rattle.cc_outside.proofs.ToldLemmas.{appended-appended, WritesPart-first, WritesPart-after}
-use Rattle.search_base.proofs.PathLaws.{map_long}
+use Rattle.std.proofs.lemmas.List.{length-map}
 use Rattle.search_base.specs.declared.fault.SearchFault.TheVariants as fault
 use Rattle.search_dfs.specs.declared.search.Summary.{Summary}
 use Rattle.search_dfs.specs.declared.tally.Tally.{Tally}
@@ -63,7 +63,7 @@ module _ (p : Setting) (after : Option Path) (limit : ℕ) (t0 t1 : Tally) (old 
         sums = record {
           paths = from_none s.paths t0.paths t1.paths _ c.paths k.paths (ap (λ (t : Tally). t.paths) zero);
           runs = from_none s.runs t0.runs t1.runs _ c.runs k.runs (ap (λ (t : Tally). t.runs) zero);
-          counts = same_counts _ _ (c.terms ∙ sym (map_long seen_term (t1.terms).items))
+          counts = same_counts _ _ (c.terms ∙ sym (length-map (t1.terms).items seen_term))
               (from_none s.spent t0.spent t1.spent _ c.spent k.spent (ap (λ (t : Tally). t.spent) zero))
               (from_none s.steps t0.steps t1.steps _ c.steps k.steps (ap (λ (t : Tally). t.steps) zero))
               (from_none s.strays t0.strays t1.strays _ c.strays k.strays (ap (λ (t : Tally). t.strays) zero))

@@ -21,7 +21,7 @@ use Rattle.sym_run.specs.Traces.{outcome_at, others_at}
 use Rattle.search_walks.specs.declared.log.Log.{Log}
 use Rattle.search_walks.specs.declared.log.Tried.{Tried}
 use Rattle.search_walks.specs.Made.{RunOf}
-use Rattle.search_base.proofs.PathLaws.{map_long}
+use Rattle.std.proofs.lemmas.List.{length-map}
 use Rattle.search_base.specs.Setting.{Setting, layer_of}
 use Rattle.search_walks.specs.Steps.{Followed, FollowedSome, TriedOne, no_input, past_budget, was_run, TriedSome, some_of_spent, some_of_run}
 use Rattle.search_walks.specs.Walks.{Gives, IsNever, IsSpent, prediction}
@@ -57,7 +57,7 @@ module _ (s : Setting) (t : Trace) (p : Path) (run : RunOf s t p) (k : ℕ) (o :
 
   module _ (h : k < length p) (i : In o ((layer_of s).others t.input k)) where
     pub is_offered : (e : Event) × (slice_get t.events k ≡ Some e) × In o (others_at e)
-    is_offered = let m = map_long outcome_at t.events in let n = ap length run.outcomes in let e = some_at t.events k (omega (arith, h, m, n)) in
+    is_offered = let m = length-map t.events outcome_at in let n = ap length run.outcomes in let e = some_at t.events k (omega (arith, h, m, n)) in
         (e.0, e.1, subst (In o) (sym (run.others k e.0 e.1)) i)
 
     pub prefix_bytes : (w : Path) → w ≡ next (take k p) o → All HasByte w
