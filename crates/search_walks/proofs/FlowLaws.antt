@@ -7,7 +7,8 @@ use Rattle.cc_model.specs.declared.checked.SiteId.{SiteId}
 use Rattle.tac_lower.specs.declared.instr.Instr.{Instr}
 use Rattle.tac_lower.specs.declared.instr.Instr.TheVariants as instr
 use Rattle.tac_lower.specs.declared.tac.Tac.{Tac}
-use Rattle.tac_lower.specs.Flow.{decided, site_in, LeadsTo, OutcomeLeadsTo, AreSuccessors}
+use Rattle.tac_lower.specs.Flow.{way, decided, site_in, last_first, IsBehind, GoesTo, LeadsTo, OutcomeLeadsTo, AreSuccessors}
+use Rattle.cc_base.specs.Paths.{In}
 use Rattle.search_walks.specs.Distance.{entry, IsDecisionSite, DecidesAt, IsPlain}
 use Rattle.search_walks.specs.Rows.{Has, Grows, IsOne, IsAny}
 use Rattle.search_walks.specs.Backwards.{decision_in, Comes, Edge, DecisionAt, IsDecision, Arrives, FlowUpTo}
@@ -126,8 +127,9 @@ module _ (c : Checked) (t : Tac) (at : ℕ) where
         by_decision r a x (inr i) = (g.each r a).1 (inr (record { there = subst (λ m. r < m) (sym f.decisions_places) (slice_get_within c.sites r x.is_site.0 x.is_site.1); same_place = one_site s.0 r d.decides (subst (λ m. DecidesAt c t m r) i x.decides); same_number = i }))
 
   -- an instruction without a decision
-  pub more_edges : (b b_new o e : List (List ℕ)) (l : List ℕ) → IsPlain c t at → AreSuccessors t at l → FlowUpTo c t at b o e → Grows b b_new (IsAny b at l) → FlowUpTo c t (suc at) b_new o e
-  more_edges b b_new o e l p h f g = record {
+  more_edges : (b b_new o e : List (List ℕ)) (l : List ℕ) → IsPlain c t at → ((a : ℕ) → a < length t.code → In a l → LeadsTo t at a) → ((a : ℕ) → LeadsTo t at a → In a l) →
+      FlowUpTo c t at b o e → Grows b b_new (IsAny b at l) → FlowUpTo c t (suc at) b_new o e
+  more_edges b b_new o e l p leads comes f g = record {
     before_places = g.places ∙ f.before_places;
     outcomes_places = f.outcomes_places;
     decisions_places = f.decisions_places;
@@ -139,12 +141,12 @@ module _ (c : Checked) (t : Tac) (at : ℕ) where
       edge : (a k : ℕ) → Has b_new a k → (k < suc at) × Edge c t a k
       edge a k x = elim ((g.each a k).0 x) [
         | inl y ↦ let q = (f.edges a k).0 y in (omega (arith, q.0), q.1)
-        | inr y ↦ (omega (arith, y.same_number), record { plain = subst (IsPlain c t) (sym y.same_number) p; leads = subst (λ m. LeadsTo t m a) (sym y.same_number) ((h.1 a).0 (to_contains l a y.is_in)) })
+        | inr y ↦ (omega (arith, y.same_number), record { plain = subst (IsPlain c t) (sym y.same_number) p; leads = subst (λ m. LeadsTo t m a) (sym y.same_number) (leads a (subst (λ m. a < m) f.before_places y.there) y.is_in) })
       ]
 
       has : (a k : ℕ) → Edge c t a k → (k < at) ⊎ (k ≡ at) → Has b_new a k
       has a k x (inl i) = (g.each a k).1 (inl ((f.edges a k).1 (i, x)))
-      has a k x (inr i) = (g.each a k).1 (inr (record { there = subst (λ m. a < m) (sym f.before_places) x.leads.place.0; is_in = from_contains l a ((h.1 a).1 (subst (λ m. LeadsTo t m a) i x.leads)); same_number = i }))
+      has a k x (inr i) = (g.each a k).1 (inr (record { there = subst (λ m. a < m) (sym f.before_places) x.leads.place.0; is_in = comes a (subst (λ m. LeadsTo t m a) i x.leads); same_number = i }))
 
       by : (a k : ℕ) (x : Arrives c t a k) → (x.from < at) ⊎ (x.from ≡ at) → Has o a k
       by a k x (inl i) = (f.arrives a k).1 (x, i)
@@ -153,6 +155,21 @@ module _ (c : Checked) (t : Tac) (at : ℕ) where
       by_decision : (r a : ℕ) → IsDecision c t r a → (a < at) ⊎ (a ≡ at) → Has e r a
       by_decision r a x (inl i) = (f.decides r a).1 (i, x)
       by_decision r a x (inr i) = absurd (not_both r (subst (λ m. DecidesAt c t m r) i x.decides) p)
+
+  -- one whose successors are known
+  pub more_successors : (b b_new o e : List (List ℕ)) (l : List ℕ) → IsPlain c t at → AreSuccessors t at l → FlowUpTo c t at b o e → Grows b b_new (IsAny b at l) → FlowUpTo c t (suc at) b_new o e
+  more_successors b b_new o e l p h f g = more_edges b b_new o e l p (λ a i j. (h.1 a).0 (to_contains l a j)) (λ a x. from_contains l a ((h.1 a).1 x)) f g
+
+  -- a return, which leads to behind the calls of its function
+  pub more_returns : (b b_new o e : List (List ℕ)) (l : List ℕ) (i : Instr) (n : ℕ) → slice_get t.code at ≡ Some i → i ≡ instr.Return n → length t.code < 4294967296 → ((a : ℕ) → In a l ↔ IsBehind t (last_first at t.funcs) a) →
+      IsPlain c t at → FlowUpTo c t at b o e → Grows b b_new (IsAny b at l) → FlowUpTo c t (suc at) b_new o e
+  more_returns b b_new o e l i n is r s h p f g = more_edges b b_new o e l p leads comes f g
+    where
+      leads : (a : ℕ) → a < length t.code → In a l → LeadsTo t at a
+      leads a w j = record { instruction = instr.Return n; is = is ∙ ap Some r; place = (w, omega (arith, w, s)); goes = (h a).0 j }
+
+      comes : (a : ℕ) → LeadsTo t at a → In a l
+      comes a x = let same : x.instruction ≡ instr.Return n = cc (x.is, is, r) in (h a).1 (subst (λ j. GoesTo t at (way j) a) same x.goes)
 
 pub no_flow : (c : Checked) (t : Tac) (b o e : List (List ℕ)) → length b ≡ length t.code → length o ≡ length t.code → length e ≡ length c.sites →
     ((p n : ℕ) → Has b p n → ⊥) → ((p n : ℕ) → Has o p n → ⊥) → ((p n : ℕ) → Has e p n → ⊥) → FlowUpTo c t 0 b o e

@@ -1,5 +1,6 @@
 pub mod RowLaws
 pub mod FlowLaws
+pub mod ReturnLaws
 pub mod LayerLaws
 pub mod StepLaws
 pub mod TraceLaws

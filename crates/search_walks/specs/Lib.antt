@@ -5,6 +5,7 @@ pub mod Walks
 pub mod Output
 pub mod Rows
 pub mod Backwards
+pub mod Returns
 pub mod Layers
 pub mod Offers
 pub mod Task

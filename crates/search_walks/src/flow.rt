@@ -4,8 +4,10 @@ ghost use Rattle.std.specs.Prelude.{◌≡◌, ◌<◌, suc, length, slice_get, 
 ghost use Rattle.search_walks.specs.Distance.{entry, IsPlain};
 ghost use Rattle.search_walks.specs.Rows.{Grows, IsAny};
 ghost use Rattle.search_walks.specs.Backwards.{decision_in, Comes, DecisionAt, FlowUpTo};
+ghost use Rattle.search_walks.specs.Returns.{AreReturns};
 
 use crate::candidates::is_decision;
+use crate::returns::Returns;
 use crate::rows::Rows;
 use cc_model::base::NoMemory;
 use cc_model::{Checked, SiteId};
@@ -48,6 +50,16 @@ fn add_all(rows: &mut Rows, number: usize, places: &[u32]) -> Result<(), NoMemor
 {
     for place in places {
         rows.add(*place as usize, number)?;
+    }
+    Ok(())
+}
+
+/// Adds a return to each of the places to which it leads.
+fn add_return(rows: &mut Rows, at: usize, places: &[usize]) -> Result<(), NoMemory>
+    ensures { OnOk result (Grows rows.old.rows.items rows.new.rows.items (IsAny rows.old.rows.items at places.now)) }
+{
+    for place in places {
+        rows.add(*place, at)?;
     }
     Ok(())
 }
@@ -96,13 +108,20 @@ impl Flow {
         alloc: Global,
         checked: &Checked,
         tac: &Tac,
+        returns: &Returns,
         at: u32,
+        instruction: Instr,
     ) -> Result<(), NoMemory>
         requires before { FlowUpTo checked.now tac.now at self.old.before.rows.items self.old.outcomes.rows.items self.old.decisions.rows.items }
+        requires tables { AreReturns tac.now returns.now.firsts.items returns.now.behind.rows.items }
+        requires is { slice_get tac.now.code at ≡ Some instruction }
         requires plain { IsPlain checked.now tac.now at }
         ensures { OnOk result (FlowUpTo checked.now tac.now (suc at) self.new.before.rows.items self.new.outcomes.rows.items self.new.decisions.rows.items) }
     {
         let _checked = checked;
+        if let Instr::Return(_) = instruction {
+            return add_return(&mut self.before, at as usize, returns.of(tac, at));
+        }
         let places = tac.successors(alloc, at)?;
         add_all(&mut self.before, at as usize, places.as_slice())
     }
@@ -113,16 +132,18 @@ impl Flow {
         alloc: Global,
         checked: &Checked,
         tac: &Tac,
+        returns: &Returns,
         at: u32,
         instruction: Instr,
     ) -> Result<(), NoMemory>
         requires before { FlowUpTo checked.now tac.now at self.old.before.rows.items self.old.outcomes.rows.items self.old.decisions.rows.items }
+        requires tables { AreReturns tac.now returns.now.firsts.items returns.now.behind.rows.items }
         requires is { slice_get tac.now.code at ≡ Some instruction }
         ensures { OnOk result (FlowUpTo checked.now tac.now (suc at) self.new.before.rows.items self.new.outcomes.rows.items self.new.decisions.rows.items) }
     {
         match decision_of(instruction) {
             Some(site) => self.add_decision(checked, tac, at, site),
-            None => self.add_edges(alloc, checked, tac, at),
+            None => self.add_edges(alloc, checked, tac, returns, at, instruction),
         }
     }
 
@@ -135,13 +156,14 @@ impl Flow {
         if length > u32::MAX as usize {
             return Err(NoMemory);
         }
+        let returns = Returns::new(alloc, tac)?;
         let mut flow = Flow {
             before: Rows::new(alloc, length)?,
             outcomes: Rows::new(alloc, length)?,
             decisions: Rows::new(alloc, checked.sites.len())?,
         };
         for (at, instruction) in tac.code.as_slice().iter().enumerate() {
-            flow.add(alloc, checked, tac, at as u32, *instruction)?;
+            flow.add(alloc, checked, tac, &returns, at as u32, *instruction)?;
         }
         Ok(flow)
     }

@@ -10,6 +10,7 @@ mod draws;
 mod flow;
 mod log;
 mod passing;
+mod returns;
 mod rows;
 mod runs;
 mod task;
