@@ -13,7 +13,6 @@ use Rattle.search_walks.specs.Distance.{entry, IsDecisionSite, DecidesAt, IsPlai
 use Rattle.search_walks.specs.Rows.{Has, Grows, IsOne, IsAny}
 use Rattle.search_walks.specs.Backwards.{decision_in, Comes, Edge, DecisionAt, IsDecision, Arrives, FlowUpTo}
 use Rattle.search_walks.proofs.RowLaws.{grows_by, grows_none, from_contains, to_contains}
-use Rattle.search_base.proofs.InsertLaws.{there}
 
 -- ---- an outcome
 

@@ -7,7 +7,6 @@ use Rattle.std.proofs.lemmas.Bool.{cases_lt, cases_eq}
 use Rattle.cc_base.specs.Paths.{In}
 use Rattle.search_base.proofs.PathLaws.{in_left, in_right, in_either}
 use Rattle.search_walks.specs.Rows.{row, Has, Grows, IsOne, IsAny}
-use Rattle.search_base.proofs.InsertLaws.{there}
 
 -- one more in the front of a list
 pub in_more : {A : Type 0} → (l : List A) (n : ℕ) (x z : A) → n < length l → x ≡ get_or l n x → In z (take (n + 1) l) → In z (take n l) ⊎ (z ≡ x)
