@@ -40,7 +40,7 @@ returns-in_err-line-in-Spent-clause-err g c = on_err _ (nothing_yet refl)
 
 pub returns-in_err-write_line-in-Spent-clause-err : goal.returns-in_err-write_line-in-Spent-clause-err
 returns-in_err-write_line-in-Spent-clause-err g c = let k = c.in_ok-prefix.ensures ∙ ap (λ (l : Path). next (take c.args.event l) c.args.outcome) c.as_slice.ensures in
-    on_err _ (spent_some (setting_of (c.args.task).now) ((c.args.run).now).trace ((c.args.run).now).path c.requires.run c.args.event c.args.outcome c.in_ok-prefix.prefix k _ _ _ _ (came (setting_of (c.args.task).now) ((c.args.run).now).trace ((c.args.run).now).path c.requires.run c.args.event c.args.outcome turn.Spent _ c.in-Spent.is c.in_ok-turned.ensures.answer c.in_ok-turned.ensures.turned) (prefix_bytes (setting_of (c.args.task).now) ((c.args.run).now).trace ((c.args.run).now).path c.requires.run c.args.event c.args.outcome c.requires.there c.requires.offered c.in_ok-prefix.prefix k) c.in_ok-line-in-Spent.ensures c.deref.ensures.value c.in_err-write_line-in-Spent.ensures.part)
+    on_err _ (spent_some (setting_of (c.args.task).now) ((c.args.run).now).trace ((c.args.run).now).path c.requires.run c.args.event c.args.outcome c.in_ok-prefix.prefix k _ _ _ _ (came (setting_of (c.args.task).now) ((c.args.run).now).trace ((c.args.run).now).path c.requires.run c.args.event c.args.outcome turn.Spent _ c.in-Spent.is c.in_ok-turned.ensures.answer c.in_ok-turned.ensures.turned) c.in_ok-line-in-Spent.ensures c.deref.ensures.value c.in_err-write_line-in-Spent.ensures.part)
 
 pub returns-in-Spent-clause-ok : goal.returns-in-Spent-clause-ok
 returns-in-Spent-clause-ok g c = let k = c.in_ok-prefix.ensures ∙ ap (λ (l : Path). next (take c.args.event l) c.args.outcome) c.as_slice.ensures in
