@@ -1,5 +1,5 @@
 -- What a search has written at its end.
-use Rattle.std.proofs.Common.{◌≡◌, ℕ, zero, ◌+◌, ◌↔◌, ◌||◌, inl, inr, false, List, [], map, Option, sym, ap, ◌∙◌, subst, arith}
+use Rattle.std.proofs.Common.{◌≡◌, ℕ, ◌+◌, ◌↔◌, ◌||◌, inl, inr, false, List, [], map, Option, sym, ap, ◌∙◌, subst, arith}
 use Rattle.cc_base.specs.declared.inputs.Test.{Test}
 use Rattle.cc_base.specs.Paths.{Path, In}
 use Rattle.cc_model.specs.Tested.{Term}
@@ -8,7 +8,6 @@ use Rattle.cc_model.specs.Report.{item_lines, term_lines, has_fault}
 use Rattle.cc_outside.specs.Told.{appended, WritesPart}
 use Rattle.cc_outside.proofs.ToldLemmas.{appended-appended, WritesPart-first, WritesPart-after}
 use Rattle.std.proofs.lemmas.List.{length-map}
-use Rattle.search_base.specs.declared.fault.SearchFault.TheVariants as fault
 use Rattle.search_dfs.specs.declared.search.Summary.{Summary}
 use Rattle.search_dfs.specs.declared.tally.Tally.{Tally}
 use Rattle.search_dfs.specs.Explored.{Explored, ExploredSome, Counted, HasNumbers}

@@ -5,7 +5,6 @@ use Rattle.cc_base.specs.Outcomes.{HasByte}
 use Rattle.cc_base.specs.Paths.{Path, next}
 use Rattle.cc_base.specs.declared.inputs.Test.{Test}
 use Rattle.cc_model.specs.Listing.{Item, test_item, past_item, Above, NotAbove, Reached}
-use Rattle.search_base.specs.declared.fault.SearchFault.TheVariants as fault
 use Rattle.search_dfs.specs.Search.{State}
 use Rattle.search_base.specs.Setting.{Setting, layer_of, within_of, meets_of, base_of}
 use Rattle.search_dfs.specs.declared.open.Pending.{Pending}

@@ -15,7 +15,6 @@ use Rattle.sym_run.specs.Stands.{IsSite}
 use Rattle.sym_run.specs.Traces.{ArePlain, outcome_at}
 use Rattle.search_walks.specs.Covering.{Marks, IsTakenUpTo}
 use Rattle.search_walks.specs.Counted.{Took}
-use Rattle.search_walks.specs.Distance.{entry}
 use Rattle.search_walks.specs.Made.{RunOf}
 use Rattle.search_base.specs.Setting.{Setting}
 use Rattle.search_walks.specs.Deciding.{Takes}
