@@ -7,7 +7,7 @@ use std::alloc::AllocFailed;
 use thiserror::Error;
 
 /// Why a source has no tokens. The number is the offset in bytes of the first fault.
-#[derive(Clone, Copy, Debug, PartialEq, Eq, Error)]
+#[derive(Clone, Copy, Debug, Error)]
 pub enum LexFault {
     /// A byte that begins no token.
     #[error("no token begins with the byte at {0}")]

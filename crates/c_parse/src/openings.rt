@@ -14,7 +14,7 @@ use cc_model::{Expr, Keyword, Kind, Punct};
 use sqlite_items::Items;
 
 /// What stands behind a unary expression.
-#[derive(Clone, Copy, Debug, PartialEq, Eq)]
+#[derive(Clone, Copy)]
 pub enum Behind {
     /// An assignment operator.
     Assign(Punct),
@@ -24,7 +24,7 @@ pub enum Behind {
 }
 
 /// What begins a simple statement.
-#[derive(Clone, Copy, Debug, PartialEq, Eq)]
+#[derive(Clone, Copy)]
 pub enum SimpleStart {
     Assert,
     Assume,
@@ -36,7 +36,7 @@ pub enum SimpleStart {
 }
 
 /// What begins a statement.
-#[derive(Clone, Copy, Debug, PartialEq, Eq)]
+#[derive(Clone, Copy)]
 pub enum StmtStart {
     Empty,
     Block,
@@ -51,7 +51,7 @@ pub enum StmtStart {
 }
 
 /// What begins an item: a `struct` is one where a `{` stands behind its tag.
-#[derive(Clone, Copy, Debug, PartialEq, Eq)]
+#[derive(Clone, Copy)]
 pub enum ItemStart {
     Typedef,
     Struct,
@@ -60,7 +60,7 @@ pub enum ItemStart {
 }
 
 /// What begins the start value of a global: what is neither a number nor a `-` has to be `NULL`.
-#[derive(Clone, Copy, Debug, PartialEq, Eq)]
+#[derive(Clone, Copy)]
 pub enum ValueStart {
     Number(i32),
     Negative,

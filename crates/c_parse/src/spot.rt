@@ -1,7 +1,7 @@
 //! Places among the tokens.
 
 /// The index of the next token, and how many tokens are open there.
-#[derive(Clone, Copy, Debug, PartialEq, Eq)]
+#[derive(Clone, Copy)]
 pub struct Spot {
     pub at: u32,
     pub level: u32,

@@ -3,7 +3,7 @@
 use cc_model::Punct;
 
 /// What goes on behind a postfix expression.
-#[derive(Clone, Copy, Debug, PartialEq, Eq)]
+#[derive(Clone, Copy)]
 pub enum Step {
     /// A field, by its `.` or `->`.
     Field(Punct),
@@ -11,7 +11,7 @@ pub enum Step {
 }
 
 /// What begins a primary expression.
-#[derive(Clone, Copy, Debug, PartialEq, Eq)]
+#[derive(Clone, Copy)]
 pub enum Start {
     Name,
     Number(i32),
@@ -22,7 +22,7 @@ pub enum Start {
 }
 
 /// What begins a type.
-#[derive(Clone, Copy, Debug, PartialEq, Eq)]
+#[derive(Clone, Copy)]
 pub enum TypeStart {
     Int,
     Struct,

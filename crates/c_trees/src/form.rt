@@ -9,7 +9,7 @@ ghost use Rattle.c_trees.specs.Forms.{form_tokens, form_sites, form_depth, decis
 use cc_model::Expr;
 
 /// The sites of an operator.
-#[derive(Clone, Copy, Debug, PartialEq, Eq)]
+#[derive(Clone, Copy)]
 pub enum Own {
     Nothing,
     Decision,

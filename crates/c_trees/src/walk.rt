@@ -15,14 +15,14 @@ use sqlite_items::Items;
 use std::alloc::Global;
 
 /// A site before it has its line: its token and what happens there.
-#[derive(Clone, Copy, Debug, PartialEq, Eq)]
+#[derive(Clone, Copy)]
 pub struct Mark {
     pub token: u32,
     pub kind: SiteKind,
 }
 
 /// What a walk has met so far: the tokens of expressions in order of their numbers, and the sites as they stand in the trees.
-#[derive(Debug, Drop)]
+#[derive(Drop)]
 pub struct Walk {
     pub tokens: Items<u32>,
     pub marks: Items<Mark>,

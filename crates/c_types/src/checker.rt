@@ -26,7 +26,7 @@ use std::alloc::Global;
 use thiserror::Error;
 
 /// Why a program is not checked. A number is a token's index, from 0.
-#[derive(Clone, Copy, Debug, PartialEq, Eq, Error)]
+#[derive(Clone, Copy, Debug, Error)]
 pub enum TypeFault {
     /// A name that isn't declared as it is used here.
     #[error("unknown name at token {0}")]

@@ -15,7 +15,7 @@ use cc_model::typing::{Note, Wrong};
 use sqlite_items::at;
 
 /// A fault and its token.
-#[derive(Clone, Copy, Debug, PartialEq, Eq)]
+#[derive(Clone, Copy)]
 pub struct Found {
     pub what: Wrong,
     pub token: u32,

@@ -13,7 +13,7 @@ use sqlite_items::{Items, at};
 use std::alloc::Global;
 
 /// What notes say of a token, where more than one says it the first: what a name there means, the index of the note with its type, and whether the number there stands for NULL.
-#[derive(Clone, Copy, Debug, PartialEq, Eq)]
+#[derive(Clone, Copy)]
 pub struct Said {
     pub name: Option<Target>,
     pub ty: Option<usize>,

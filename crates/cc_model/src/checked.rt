@@ -5,7 +5,7 @@ use cc_base::{CellTy, TyId};
 use sqlite_items::Items;
 
 /// A type. A struct is told by its number in order of definition.
-#[derive(Clone, Copy, Debug, PartialEq, Eq)]
+#[derive(Clone, Copy)]
 pub enum Ty {
     Int,
     Void,
@@ -19,7 +19,7 @@ pub enum Ty {
 pub type Layout = Items<CellTy>;
 
 /// What a name means.
-#[derive(Clone, Copy, Debug, PartialEq, Eq)]
+#[derive(Clone, Copy)]
 pub enum Target {
     /// A global, in order of declarator.
     Global(u32),
@@ -32,7 +32,7 @@ pub enum Target {
 }
 
 /// What happens at a site.
-#[derive(Clone, Copy, Debug, PartialEq, Eq)]
+#[derive(Clone, Copy)]
 pub enum SiteKind {
     Decision,
     Fit,
@@ -42,7 +42,7 @@ pub enum SiteKind {
 }
 
 /// A place of the source at which an event can come.
-#[derive(Clone, Copy, Debug, PartialEq, Eq)]
+#[derive(Clone, Copy)]
 pub struct Site {
     pub token: u32,
     pub line: u32,
@@ -55,7 +55,7 @@ pub struct Site {
 pub struct SiteId(pub u32);
 
 /// A function: the types of its parameters, of its result, and of its locals; it has no locals where it has no body.
-#[derive(Debug, Drop)]
+#[derive(Drop)]
 pub struct Sig {
     pub params: Items<TyId>,
     pub result: TyId,

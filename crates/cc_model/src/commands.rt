@@ -12,7 +12,7 @@ pub enum Strategy {
 }
 
 /// `run FILE ENTRY N STRATEGY D`. Where a field names a word, it is the word's number, from 1.
-#[derive(Clone, Copy, Debug)]
+#[derive(Clone, Copy)]
 pub struct RunWords {
     pub file: u32,
     pub entry: u32,
@@ -29,7 +29,7 @@ pub struct RunWords {
 }
 
 /// `trace FILE ENTRY MAP`
-#[derive(Clone, Copy, Debug)]
+#[derive(Clone, Copy)]
 pub struct TraceWords {
     pub file: u32,
     pub entry: u32,
@@ -38,7 +38,7 @@ pub struct TraceWords {
 }
 
 /// `replay FILE ENTRY TESTS`
-#[derive(Clone, Copy, Debug)]
+#[derive(Clone, Copy)]
 pub struct ReplayWords {
     pub file: u32,
     pub entry: u32,
@@ -46,7 +46,7 @@ pub struct ReplayWords {
 }
 
 /// A command.
-#[derive(Clone, Copy, Debug)]
+#[derive(Clone, Copy)]
 pub enum Command {
     Run(RunWords),
     Trace(TraceWords),

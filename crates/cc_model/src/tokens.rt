@@ -1,7 +1,7 @@
 //! Tokens.
 
 /// A sign.
-#[derive(Clone, Copy, Debug, PartialEq, Eq)]
+#[derive(Clone, Copy)]
 pub enum Punct {
     /// `{`
     OpenBrace,
@@ -72,7 +72,7 @@ pub enum Punct {
 }
 
 /// A word with a meaning of its own: the words that the grammar uses, then the other keywords of C11, which no rule uses.
-#[derive(Clone, Copy, Debug, PartialEq, Eq)]
+#[derive(Clone, Copy)]
 pub enum Keyword {
     Int,
     Struct,
@@ -127,7 +127,7 @@ pub enum Keyword {
 }
 
 /// What a token is. A number is at most 2147483647.
-#[derive(Clone, Copy, Debug, PartialEq, Eq)]
+#[derive(Clone, Copy)]
 pub enum Kind {
     Name,
     Number(i32),
@@ -138,7 +138,7 @@ pub enum Kind {
 /// A token: the source from `start` to `end`, which begins in line `line` at column `col`, both from 1.
 ///
 /// A line is 1 plus the newlines before it, a column 1 plus the bytes since the last newline.
-#[derive(Clone, Copy, Debug, PartialEq, Eq)]
+#[derive(Clone, Copy)]
 pub struct Token {
     pub kind: Kind,
     pub start: u32,

@@ -41,7 +41,7 @@ pub enum Expr {
 }
 
 /// The name of a type: `int`, a struct by its tag, or the name of a typedef.
-#[derive(Clone, Copy, Debug, PartialEq, Eq)]
+#[derive(Clone, Copy)]
 pub enum Base {
     Int,
     Struct(u32),
@@ -49,21 +49,21 @@ pub enum Base {
 }
 
 /// A type and the number of stars behind it.
-#[derive(Clone, Copy, Debug, PartialEq, Eq)]
+#[derive(Clone, Copy)]
 pub struct TypeName {
     pub base: Base,
     pub stars: u32,
 }
 
 /// What a function gives: nothing, or a value of a type.
-#[derive(Clone, Copy, Debug, PartialEq, Eq)]
+#[derive(Clone, Copy)]
 pub enum ResultType {
     Void,
     Value(TypeName),
 }
 
 /// An array's length.
-#[derive(Clone, Copy, Debug, PartialEq, Eq)]
+#[derive(Clone, Copy)]
 pub struct Length {
     pub token: u32,
     pub value: i32,
@@ -158,14 +158,14 @@ pub enum Part {
 }
 
 /// A parameter of a function with a body.
-#[derive(Clone, Copy, Debug, PartialEq, Eq)]
+#[derive(Clone, Copy)]
 pub struct Param {
     pub ty: TypeName,
     pub name: u32,
 }
 
 /// A parameter of a prototype, whose name may be left out.
-#[derive(Clone, Copy, Debug, PartialEq, Eq)]
+#[derive(Clone, Copy)]
 pub struct ProtoParam {
     pub ty: TypeName,
     pub name: Option<u32>,
@@ -197,7 +197,7 @@ pub enum StructDef {
 }
 
 /// The start value of a global.
-#[derive(Clone, Copy, Debug, PartialEq, Eq)]
+#[derive(Clone, Copy)]
 pub enum StartValue {
     Number(u32, i32),
     /// The `-`, the number and the value behind the `-`.
@@ -206,7 +206,7 @@ pub enum StartValue {
 }
 
 /// `= ..` behind a global's declarator.
-#[derive(Clone, Copy, Debug, PartialEq, Eq)]
+#[derive(Clone, Copy)]
 pub struct GlobalStart {
     pub equals: u32,
     pub value: StartValue,
@@ -232,7 +232,13 @@ pub enum Item {
 }
 
 /// A source file.
-#[derive(Drop)]
 pub struct Program {
     pub items: Items<Item>,
+}
+
+/// Written by hand, so that the crates above call this function, and don't each prove the drops of all trees.
+impl Drop for Program {
+    fn drop(self) {
+        let Program { items: _items } = self;
+    }
 }

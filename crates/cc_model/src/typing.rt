@@ -7,7 +7,7 @@ use sqlite_items::Items;
 pub type Text = Items<u8>;
 
 /// What a type is made of. A struct is told by its number in order of definition in the file.
-#[derive(Clone, Copy, Debug, PartialEq, Eq)]
+#[derive(Clone, Copy)]
 pub enum BaseType {
     Int,
     Void,
@@ -15,7 +15,7 @@ pub enum BaseType {
 }
 
 /// A type: its base, the number of stars behind it, and the lengths of the arrays that are made of these, the outermost first. No pointer leads to an array.
-#[derive(Debug, Drop)]
+#[derive(Drop)]
 pub struct CType {
     pub base: BaseType,
     pub stars: u32,
@@ -23,7 +23,7 @@ pub struct CType {
 }
 
 /// What is wrong at a token.
-#[derive(Clone, Copy, Debug, PartialEq, Eq)]
+#[derive(Clone, Copy)]
 pub enum Wrong {
     Unknown,
     Twice,
@@ -32,7 +32,7 @@ pub enum Wrong {
 }
 
 /// What is said of a token.
-#[derive(Debug, Drop)]
+#[derive(Drop)]
 pub enum Note {
     /// A fault.
     Fault(Wrong, u32),
@@ -47,7 +47,7 @@ pub enum Note {
 }
 
 /// What an expression is.
-#[derive(Debug, Drop)]
+#[derive(Drop)]
 pub enum Shape {
     /// It is not well typed.
     Unclear,
@@ -60,14 +60,14 @@ pub enum Shape {
 }
 
 /// An argument: its first token, and what it is.
-#[derive(Debug, Drop)]
+#[derive(Drop)]
 pub struct Operand {
     pub first: u32,
     pub shape: Shape,
 }
 
 /// A variable. It has no type where its declaration names none.
-#[derive(Debug, Drop)]
+#[derive(Drop)]
 pub struct Variable {
     pub name: Text,
     pub ty: Option<CType>,
@@ -75,21 +75,21 @@ pub struct Variable {
 }
 
 /// A typedef's name, and the number of its struct, where its tag is known.
-#[derive(Debug, Drop)]
+#[derive(Drop)]
 pub struct Alias {
     pub name: Text,
     pub number: Option<u32>,
 }
 
 /// A field of a struct.
-#[derive(Debug, Drop)]
+#[derive(Drop)]
 pub struct Member {
     pub name: Text,
     pub ty: Option<CType>,
 }
 
 /// A function as its first declaration says.
-#[derive(Debug, Drop)]
+#[derive(Drop)]
 pub struct Function {
     pub name: Text,
     pub result: Option<CType>,
@@ -97,7 +97,7 @@ pub struct Function {
 }
 
 /// What the file's scope has before a place, in order: typedef names, how many structs are defined, globals, functions, and functions with a body.
-#[derive(Debug, Drop)]
+#[derive(Drop)]
 pub struct Before {
     pub aliases: Items<Alias>,
     pub structs: u32,
@@ -107,7 +107,7 @@ pub struct Before {
 }
 
 /// What is visible in the whole file: the structs in order of definition, with their tags, fields and sizes; the functions in order of first declaration, and those that have a body.
-#[derive(Debug, Drop)]
+#[derive(Drop)]
 pub struct File {
     pub tags: Items<Option<Text>>,
     pub structs: Items<Items<Member>>,

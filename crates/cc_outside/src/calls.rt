@@ -4,7 +4,7 @@ ghost use Rattle.std.specs.Bool.{OnTrue, OnFalse};
 ghost use Rattle.cc_outside.specs.Faults.{counted_up};
 
 /// How many calls there were, the number of the one that is to fail, and how many failed.
-#[derive(Clone, Copy, Debug)]
+#[derive(Clone, Copy)]
 pub(crate) struct Calls {
     pub(crate) made: u64,
     pub(crate) fails_at: Option<u64>,

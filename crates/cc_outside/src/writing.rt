@@ -43,7 +43,7 @@ pub trait Sink {
 }
 
 /// A sink that takes every piece and keeps nothing.
-#[derive(Clone, Copy, Debug)]
+#[derive(Clone, Copy)]
 pub struct NullSink;
 
 impl Sink for NullSink {

@@ -16,7 +16,7 @@ use itoa::Buffer;
 use std::alloc::Global;
 
 /// The status with which the program ends.
-#[derive(Clone, Copy, Debug, PartialEq, Eq)]
+#[derive(Clone, Copy)]
 pub struct Status(pub u8);
 
 /// `bad word N`, which takes no memory.

@@ -10,7 +10,7 @@ use itoa::Buffer;
 use std::alloc::Global;
 
 /// What is wrong at a line of a source.
-#[derive(Clone, Copy, Debug, PartialEq, Eq)]
+#[derive(Clone, Copy)]
 pub enum Wrong {
     /// A byte that begins no token.
     BadByte,
@@ -35,7 +35,7 @@ pub enum Wrong {
 }
 
 /// Why a call is refused.
-#[derive(Clone, Copy, Debug, PartialEq, Eq)]
+#[derive(Clone, Copy)]
 pub enum Refusal {
     /// The number of the bad word, from 1.
     BadWord(u32),

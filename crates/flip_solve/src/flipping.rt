@@ -26,7 +26,7 @@ use sym_run::Trace;
 const MOST_ATOMS: usize = 1 << 28;
 
 /// What comes of turning an event.
-#[derive(Debug, Drop)]
+#[derive(Drop)]
 pub enum Turned {
     /// This input takes the other outcome.
     Turned(Input),

@@ -25,7 +25,7 @@ use sym_expr::{Place, PlaceId, Places};
 /// A number for each integer place, and a class for each pointer place, of the first places of a list.
 ///
 /// `ints` and `classes` have one entry for each of these places.
-#[derive(Debug, Drop)]
+#[derive(Drop)]
 pub struct Assignment {
     /// The number of an integer place; None where it may be any.
     pub ints: Items<Option<i32>>,

@@ -13,7 +13,7 @@ use sqlite_items::Items;
 use std::alloc::Global;
 
 /// What a byte of a map text is.
-#[derive(Clone, Copy, Debug, PartialEq, Eq)]
+#[derive(Clone, Copy)]
 enum Mark {
     /// `~`.
     Tilde,
@@ -30,7 +30,7 @@ enum Mark {
 }
 
 /// Where a reader of a map text stands.
-#[derive(Clone, Copy, Debug, PartialEq, Eq)]
+#[derive(Clone, Copy)]
 enum Place {
     /// At the beginning.
     Start,

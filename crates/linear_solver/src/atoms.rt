@@ -11,7 +11,7 @@ use cc_base::Multiple;
 use std::alloc::{AllocError, Global};
 
 /// What is asked of a form.
-#[derive(Clone, Copy, Debug, PartialEq, Eq)]
+#[derive(Clone, Copy)]
 pub enum Sign {
     /// It is at most 0.
     AtMostZero,
@@ -22,7 +22,7 @@ pub enum Sign {
 }
 
 /// What is asked of a constant plus multiples of places.
-#[derive(Debug, Drop)]
+#[derive(Drop)]
 pub struct LinearAtom {
     pub sign: Sign,
     /// The multiples, ascending by place.

@@ -18,7 +18,7 @@ use cc_base::{Mode, PassEnd};
 use std::alloc::{AllocError, Global};
 
 /// What the choices showed, with what was spent.
-#[derive(Debug, Drop)]
+#[derive(Drop)]
 pub enum Tried {
     /// The budget would be passed.
     Beyond,

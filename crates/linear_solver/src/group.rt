@@ -16,7 +16,7 @@ use crate::places::places_of;
 use std::alloc::{AllocError, Global};
 
 /// What is known of a group within the budget.
-#[derive(Debug, Drop)]
+#[derive(Drop)]
 pub enum GroupAnswer {
     /// These values, by place, meet it.
     Values(Vec<i32>),

@@ -9,7 +9,7 @@ use cc_base::Multiple;
 use std::alloc::{AllocError, Global};
 
 /// The sum of the terms is at most a number.
-#[derive(Debug, Drop)]
+#[derive(Drop)]
 pub struct Inequality {
     /// The multiples of places, ascending by place.
     pub terms: Vec<Multiple>,

@@ -15,7 +15,7 @@ use crate::restore::put_value;
 use std::alloc::{AllocError, Global};
 
 /// The numbers from `low` to `high`.
-#[derive(Clone, Copy, Debug)]
+#[derive(Clone, Copy)]
 pub struct Span {
     pub low: i128,
     pub high: i128,

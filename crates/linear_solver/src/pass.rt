@@ -13,14 +13,14 @@ use cc_base::{Mode, PassEnd};
 use std::alloc::{AllocError, Global};
 
 /// A turn: its place, and the list from which it was taken.
-#[derive(Debug, Drop)]
+#[derive(Drop)]
 pub struct Step {
     pub place: u32,
     pub list: Vec<Inequality>,
 }
 
 /// How a pass with a counter ends, and its turns.
-#[derive(Debug, Drop)]
+#[derive(Drop)]
 pub enum Counted {
     Over,
     Done(PassEnd, u64, Vec<Step>),

@@ -12,7 +12,7 @@ use cc_base::{Multiple, PassEnd};
 use std::alloc::{AllocError, Global};
 
 /// What a pass finds in a list made normal.
-#[derive(Debug, Drop)]
+#[derive(Drop)]
 pub enum Ready {
     /// The pass ends.
     Ended(PassEnd),

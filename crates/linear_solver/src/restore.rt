@@ -85,7 +85,7 @@ fn smaller_of(a: i128, b: i128) -> i128
 }
 
 /// The least and the greatest value that inequalities leave a place, where they bound it.
-#[derive(Clone, Copy, Debug)]
+#[derive(Clone, Copy)]
 pub struct Room {
     pub low: Option<i128>,
     pub high: Option<i128>,

@@ -14,7 +14,7 @@ use cc_base::Multiple;
 use std::alloc::{AllocError, Global};
 
 /// How an inequality bounds a place, with the absolute value of the place's coefficient.
-#[derive(Clone, Copy, Debug)]
+#[derive(Clone, Copy)]
 pub enum Side {
     /// It doesn't name the place.
     Neither,
@@ -45,7 +45,7 @@ pub fn side_of(place: u32, terms: &[Multiple]) -> Side
 }
 
 /// How many inequalities bound a place from below and from above, and their greatest coefficients.
-#[derive(Clone, Copy, Debug)]
+#[derive(Clone, Copy)]
 pub struct Sides {
     pub lowers: usize,
     pub uppers: usize,
@@ -94,7 +94,7 @@ pub fn sides_of(place: u32, list: &[Inequality]) -> Sides
 }
 
 /// What a place is chosen by: the least slack, then the fewest pairs, then the least number.
-#[derive(Clone, Copy, Debug)]
+#[derive(Clone, Copy)]
 pub struct Rank {
     pub slack: u128,
     pub pairs: u128,
@@ -128,7 +128,7 @@ fn is_before(a: Rank, b: Rank) -> bool
 }
 
 /// The best place so far, and the places that it was compared with.
-#[derive(Debug, Drop)]
+#[derive(Drop)]
 pub struct Best {
     pub rank: Rank,
     pub seen: Vec<u32>,

@@ -17,7 +17,7 @@ use cc_base::{Bounds, Items, NoMemory};
 use std::alloc::{AllocError, Global};
 
 /// What the solver answers.
-#[derive(Debug, Drop)]
+#[derive(Drop)]
 pub enum Solved {
     /// These numbers meet the atoms, by place; a place that no atom names has none.
     Sat(Items<Option<i32>>),
@@ -28,7 +28,7 @@ pub enum Solved {
 }
 
 /// The answers so far, and whether a group was beyond the budget.
-#[derive(Debug, Drop)]
+#[derive(Drop)]
 pub struct Progress {
     pub answers: Vec<Option<i32>>,
     pub spent: bool,

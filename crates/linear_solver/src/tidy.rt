@@ -52,7 +52,7 @@ fn lower(i: &mut Inequality, most: i128)
 }
 
 /// Different inequalities, chained by the buckets of their terms.
-#[derive(Debug, Drop)]
+#[derive(Drop)]
 pub struct Kept {
     pub list: Vec<Inequality>,
     /// For each bucket, one more than the index of its last inequality; 0 where it has none.

@@ -16,7 +16,7 @@ use sym_run::run;
 use tac_lower::Tac;
 
 /// What comes of a replay.
-#[derive(Debug, Drop)]
+#[derive(Drop)]
 pub enum Replayed {
     /// The run takes the test's path to the test's end.
     Same,

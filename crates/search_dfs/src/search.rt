@@ -34,7 +34,7 @@ use tac_lower::Tac;
 /// The counts of a finished search: its tests, its runs, its terms, the prefixes whose solve passed the budget, the tests that the
 /// bound on steps ended, the runs that left their prediction, the inputs that were not run, and whether a test or stray run ended
 /// as a fault.
-#[derive(Clone, Copy, Debug, PartialEq, Eq)]
+#[derive(Clone, Copy)]
 pub struct Summary {
     pub paths: u64,
     pub runs: u64,

@@ -52,7 +52,7 @@ pub struct Log {
 }
 
 /// How a walk ended: its runs, how many outcomes of decisions they took, how many there are, and whether a run ended as a fault.
-#[derive(Clone, Copy, Debug, PartialEq, Eq)]
+#[derive(Clone, Copy)]
 pub struct WalkSummary {
     pub runs: u64,
     pub covered: u64,

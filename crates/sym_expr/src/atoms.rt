@@ -10,7 +10,7 @@ use crate::places::{PlaceId, Places};
 use cc_base::Input;
 
 /// A side of a pointer atom.
-#[derive(Clone, Copy, Debug, PartialEq, Eq)]
+#[derive(Clone, Copy)]
 pub enum PtrTerm {
     Null,
     /// The value of a place.
@@ -18,7 +18,7 @@ pub enum PtrTerm {
 }
 
 /// What is asked of an input.
-#[derive(Debug, Drop)]
+#[derive(Drop)]
 pub enum Atom {
     /// The form is at most 0.
     Le(Form),

@@ -21,19 +21,19 @@ const COEFFICIENT_LIMIT: u128 = 1 << 40;
 const CONSTANT_LIMIT: u128 = 1 << 72;
 
 /// A form would have more than 16 terms, a coefficient above 2^40 or a constant above 2^72 in absolute value.
-#[derive(Clone, Copy, Debug, PartialEq, Eq, Error)]
+#[derive(Clone, Copy, Debug, Error)]
 #[error("the form is too wide")]
 pub struct Wide;
 
 /// A multiple of a place's value.
-#[derive(Clone, Copy, Debug, Default, PartialEq, Eq)]
+#[derive(Clone, Copy, Default)]
 pub struct FormTerm {
     pub coefficient: i64,
     pub place: PlaceId,
 }
 
 /// A constant and at most 16 multiples of places, ascending by place, none of them zero.
-#[derive(Debug, Drop)]
+#[derive(Drop)]
 pub struct Form {
     constant: i128,
     terms: ArrayVec<FormTerm, 16>,

@@ -11,11 +11,11 @@ use std::alloc::Global;
 use std::marker::Model;
 
 /// The number of a place in its list, from 0.
-#[derive(Clone, Copy, Debug, Default, PartialEq, Eq)]
+#[derive(Clone, Copy, Default)]
 pub struct PlaceId(pub u32);
 
 /// Where a value of an input stands.
-#[derive(Clone, Copy, Debug, PartialEq, Eq)]
+#[derive(Clone, Copy)]
 pub enum Place {
     /// A parameter cell, from 0.
     Arg(u32),
@@ -26,7 +26,7 @@ pub enum Place {
 }
 
 /// The places of a run. A block's place has a smaller number than the places of its cells.
-#[derive(Debug, Drop)]
+#[derive(Drop)]
 pub struct Places {
     entries: Vec<(Place, CellTy)>,
 }

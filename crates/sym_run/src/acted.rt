@@ -5,7 +5,7 @@ use cc_model::base::Outcome;
 use checked_memory::Cell;
 
 /// What an event gives: its outcome, what it asks, and its value where the run goes on.
-#[derive(Debug, Drop)]
+#[derive(Drop)]
 pub struct Acted {
     pub outcome: Outcome,
     pub asked: Asked,

@@ -5,7 +5,7 @@ use cc_model::TermKind;
 use cc_model::base::Items;
 
 /// What an event asks: nothing; that one of these outcomes comes, ascending, each with its atoms; or it belongs to a term.
-#[derive(Debug, Drop)]
+#[derive(Drop)]
 pub enum Asked {
     Nothing,
     OneOf(Items<Choice>),

@@ -21,7 +21,7 @@ use checked_memory::{Cell, Value};
 use std::alloc::Global;
 
 /// A site, what happens there, and the fault of an outcome that isn't plain.
-#[derive(Clone, Copy, Debug)]
+#[derive(Clone, Copy)]
 pub(crate) struct Spot {
     pub(crate) site: SiteId,
     pub(crate) kind: SiteKind,

@@ -24,7 +24,7 @@ use checked_memory::{Cell, Value};
 use std::alloc::Global;
 
 /// What a decision or the check of a divisor gives.
-#[derive(Debug, Drop)]
+#[derive(Drop)]
 pub struct Decided {
     pub outcome: Outcome,
     pub asked: Asked,

@@ -7,7 +7,7 @@ ghost use Rattle.sym_run.specs.Numbers.{op_of, cmp_of, IsWord};
 use cc_model::base::Outcome;
 
 /// An operation on two numbers.
-#[derive(Clone, Copy, Debug, PartialEq, Eq)]
+#[derive(Clone, Copy)]
 pub enum Operation {
     Add,
     Sub,
@@ -17,7 +17,7 @@ pub enum Operation {
 }
 
 /// A comparison of two values.
-#[derive(Clone, Copy, Debug, PartialEq, Eq)]
+#[derive(Clone, Copy)]
 pub enum Comparison {
     Equal,
     Unequal,

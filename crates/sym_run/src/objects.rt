@@ -21,7 +21,7 @@ use std::alloc::Global;
 use sym_expr::{Form, Place, PlaceId, Places};
 
 /// A touched block: the place by which it was first accessed, and its type.
-#[derive(Clone, Copy, Debug)]
+#[derive(Clone, Copy)]
 pub struct First {
     pub place: PlaceId,
     pub ty: TyId,

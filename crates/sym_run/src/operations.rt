@@ -18,7 +18,7 @@ use sym_expr::{Form, Wide};
 const FACTOR_LIMIT: u128 = 1 << 63;
 
 /// What comes of an operation on numbers: a plain number where no operand hangs on the input; else a form, or a term.
-#[derive(Debug, Drop)]
+#[derive(Drop)]
 pub enum Formed {
     PlainNumber,
     Linear(Form),

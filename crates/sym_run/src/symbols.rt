@@ -9,7 +9,7 @@ use std::marker::Model;
 use sym_expr::{Form, PlaceId};
 
 /// What stands beside a value: the form of a number, or the place of a pointer with the type to which it points.
-#[derive(Debug, Drop)]
+#[derive(Drop)]
 pub enum Symbol {
     Form(Form),
     Place(PlaceId, TyId),
@@ -17,7 +17,7 @@ pub enum Symbol {
 
 /// The symbols of a run, by number from 0. A cell's `shadow` is 0 where nothing stands beside its value but the value
 /// itself, and else one more than a symbol's number.
-#[derive(Debug, Drop)]
+#[derive(Drop)]
 pub struct Symbols {
     list: Items<Symbol>,
 }

@@ -5,14 +5,14 @@ use cc_model::{SiteId, TermKind};
 use sym_expr::{Atom, Places};
 
 /// An outcome, with the atoms that hold of exactly the inputs that take it.
-#[derive(Debug, Drop)]
+#[derive(Drop)]
 pub struct Choice {
     pub outcome: Outcome,
     pub atoms: Items<Atom>,
 }
 
 /// An event of a run: its site, the outcome that came with its atoms, the other outcomes that the input may lead to, ascending, and how many places stood before it.
-#[derive(Debug, Drop)]
+#[derive(Drop)]
 pub struct Event {
     pub site: SiteId,
     pub taken: Choice,
@@ -21,7 +21,7 @@ pub struct Event {
 }
 
 /// A site at which the run went on with the plain number of a value that hangs on the input.
-#[derive(Clone, Copy, Debug, PartialEq, Eq)]
+#[derive(Clone, Copy)]
 pub struct Term {
     pub site: SiteId,
     pub kind: TermKind,

@@ -11,7 +11,7 @@ use cc_model::base::{Items, NoMemory};
 use std::alloc::Global;
 
 /// Where an instruction leads, as it says itself.
-#[derive(Clone, Copy, Debug, PartialEq, Eq)]
+#[derive(Clone, Copy)]
 pub enum Way {
     /// To the next instruction.
     Next,

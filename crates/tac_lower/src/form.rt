@@ -9,7 +9,7 @@ use crate::instr::Comparison;
 use cc_model::Expr;
 
 /// An operator of arithmetic.
-#[derive(Clone, Copy, Debug, PartialEq, Eq)]
+#[derive(Clone, Copy)]
 pub enum Operator {
     Add,
     Sub,

@@ -4,7 +4,7 @@ use cc_model::SiteId;
 use cc_model::base::{FaultKind, TyId};
 
 /// How two values are compared.
-#[derive(Clone, Copy, Debug, PartialEq, Eq)]
+#[derive(Clone, Copy)]
 pub enum Comparison {
     Equal,
     Unequal,
@@ -15,7 +15,7 @@ pub enum Comparison {
 }
 
 /// An instruction. A `u32` is a temporary where its comment says nothing else; `dst` is where the result goes.
-#[derive(Clone, Copy, Debug, PartialEq, Eq)]
+#[derive(Clone, Copy)]
 pub enum Instr {
     /// One step.
     Step,

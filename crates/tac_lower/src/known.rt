@@ -17,7 +17,7 @@ use cc_model::base::{Items, TyId};
 use cc_model::{Checked, SiteId, SiteKind, Target, Ty};
 
 /// The sites at a token, by kind.
-#[derive(Clone, Copy, Debug, PartialEq, Eq)]
+#[derive(Clone, Copy)]
 pub struct SitesAt {
     pub decision: SiteId,
     pub divisor: SiteId,
@@ -40,7 +40,7 @@ pub struct Tables {
 }
 
 /// A variable: the slot of a local, or the first cell of a global.
-#[derive(Clone, Copy, Debug, PartialEq, Eq)]
+#[derive(Clone, Copy)]
 pub enum Variable {
     Local(u32),
     Global(u32),
