@@ -1,0 +1,104 @@
+//! A table that is read and run line by line.
+
+use crate::directive::{Directive, RowLine, read_line};
+use crate::row::Row;
+use crate::texts::Texts;
+use anyhow::bail;
+use std::alloc::Global;
+
+/// What was read so far.
+#[derive(Drop)]
+pub(crate) struct Table {
+    alloc: Global,
+    texts: Texts,
+    row: Option<Row>,
+    lines: u64,
+    rows: u64,
+    differ: u64,
+}
+
+impl Table {
+    /// An empty table.
+    pub(crate) fn new(alloc: Global) -> Table {
+        Table {
+            alloc,
+            texts: Texts::new(alloc),
+            row: None,
+            lines: 0,
+            rows: 0,
+            differ: 0,
+        }
+    }
+
+    /// How many rows were run.
+    pub(crate) fn rows(&self) -> u64 {
+        self.rows
+    }
+
+    /// How many of them differ from what is wanted.
+    pub(crate) fn differ(&self) -> u64 {
+        self.differ
+    }
+
+    /// Takes the next line.
+    pub(crate) fn take(&mut self, rt: &impl Print, line: &str) -> anyhow::Result<()> {
+        self.lines = self.lines.saturating_add(1);
+        let Some(directive) = read_line(line) else {
+            bail!("line {}: no such mark", self.lines);
+        };
+        match directive {
+            Directive::Comment => {}
+            Directive::Empty => self.end_row(rt)?,
+            Directive::Heading => self.texts.end_group(),
+            Directive::Text(name) => self.texts.begin(name, true)?,
+            Directive::File(name) => self.texts.begin(name, false)?,
+            Directive::Is(name, text) => self.texts.copy(name, text)?,
+            Directive::Line(line) => self.texts.push(1, line)?,
+            Directive::Lines(count, line) => self.texts.push(count, line)?,
+            Directive::Blanks(count) => self.texts.push_blanks(count)?,
+            Directive::Words(words) => self.begin_row(rt, words)?,
+            Directive::Row(line) => self.take_of_row(line)?,
+        }
+        Ok(())
+    }
+
+    /// Begins a row, behind the one that stands open.
+    fn begin_row(&mut self, rt: &impl Print, words: &str) -> anyhow::Result<()> {
+        self.end_row(rt)?;
+        self.row = Some(Row::new(self.alloc, self.lines, words, &self.texts)?);
+        Ok(())
+    }
+
+    /// Takes a line of the row that stands open.
+    fn take_of_row(&mut self, line: RowLine<'_>) -> anyhow::Result<()> {
+        let Some(row) = &mut self.row else {
+            bail!("line {}: of no row", self.lines);
+        };
+        match line {
+            RowLine::Report(line) => row.report.push(line)?,
+            RowLine::Error(line) => row.error.push(line)?,
+            RowLine::Status(status) => row.status = status,
+            RowLine::Fail(call) => row.fail(call),
+            RowLine::Keep(name) => row.keep = Some(String::from_str(self.alloc, name)?),
+        }
+        Ok(())
+    }
+
+    /// Runs the row that stands open.
+    pub(crate) fn end_row(&mut self, rt: &impl Print) -> anyhow::Result<()> {
+        let Some(mut row) = self.row.take() else {
+            return Ok(());
+        };
+        let status = row.run();
+        self.rows = self.rows.saturating_add(1);
+        if let Some(name) = &row.keep {
+            self.texts.begin(name.as_str(), false)?;
+            self.texts.push(1, row.written()?)?;
+        }
+        if let Some(difference) = row.difference(status)? {
+            self.differ = self.differ.saturating_add(1);
+            println!(rt; "line {}: {}: wanted {difference}", row.line, row.text)?;
+        }
+        Ok(())
+    }
+}
