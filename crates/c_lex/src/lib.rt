@@ -13,6 +13,3 @@ mod words;
 
 pub use faults::LexFault;
 pub use lexer::lex;
-
-#[cfg(test)]
-mod tests;

@@ -8,16 +8,12 @@ ghost use Rattle.cc_model.specs.Reads.{Accepts, Reads};
 ghost use Rattle.c_parse.specs.Gives.{GivesOnly};
 
 mod declarations;
-#[cfg(test)]
-mod expression_tests;
 mod expressions;
 mod fault;
 mod items;
 mod openings;
 mod operators;
 mod parser;
-#[cfg(test)]
-mod program_tests;
 mod simple;
 mod spot;
 mod starts;

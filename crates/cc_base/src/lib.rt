@@ -19,6 +19,3 @@ pub use memory::NoMemory;
 pub use outcomes::Outcome;
 pub use passes::{Mode, PassEnd};
 pub use sqlite_items::{Boxed, Items};
-
-#[cfg(test)]
-mod tests;

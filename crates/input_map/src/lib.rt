@@ -18,8 +18,3 @@ pub use maps::{an_input_has_a_map_text, read_map};
 pub use params::{layout, param_cells};
 pub use test_texts::read_test;
 pub use writing::{write_map, write_test};
-
-#[cfg(test)]
-mod build_tests;
-#[cfg(test)]
-mod tests;

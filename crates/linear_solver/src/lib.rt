@@ -20,8 +20,6 @@ pub mod ready;
 pub mod restore;
 pub mod slack;
 pub mod solve;
-#[cfg(test)]
-mod table;
 pub mod tidy;
 
 pub use atoms::{LinearAtom, Sign};

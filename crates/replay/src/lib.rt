@@ -11,6 +11,3 @@ mod tests_file;
 pub use faults::TestsFault;
 pub use replayed::{Replayed, replay_test};
 pub use tests_file::{Tests, read_tests};
-
-#[cfg(test)]
-mod tests;

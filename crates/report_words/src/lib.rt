@@ -10,6 +10,3 @@ pub use cuts::{Parts, cut_first, cut_last, lacks};
 pub use ends::end_of;
 pub use numbers::{is_number, natural_of, signed_of};
 pub use paths::path_of;
-
-#[cfg(test)]
-mod tests;

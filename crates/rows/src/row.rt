@@ -26,12 +26,7 @@ pub(crate) struct Row {
 
 impl Row {
     /// A row of these words, with the files that they name.
-    pub(crate) fn new(
-        alloc: Global,
-        line: u64,
-        text: &str,
-        texts: &Texts,
-    ) -> anyhow::Result<Row> {
+    pub(crate) fn new(alloc: Global, line: u64, text: &str, texts: &Texts) -> anyhow::Result<Row> {
         let mut files = MemFiles::new(alloc);
         let mut words = Vec::new(alloc);
         for word in text.split_whitespace() {
@@ -69,7 +64,14 @@ impl Row {
 
     /// Runs the row: its status.
     pub(crate) fn run(&mut self) -> u8 {
-        concolic(self.alloc, &self.words, &mut self.files, &mut self.out, &mut self.err).0
+        concolic(
+            self.alloc,
+            &self.words,
+            &mut self.files,
+            &mut self.out,
+            &mut self.err,
+        )
+        .0
     }
 
     /// The report that the row wrote.

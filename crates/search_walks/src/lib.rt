@@ -20,6 +20,3 @@ pub use distance::distances;
 pub use log::WalkSummary;
 pub use search_base::SearchFault;
 pub use walks::{cfg_directed, random_branch, uniform_random};
-
-#[cfg(test)]
-mod tests;

@@ -4,7 +4,5 @@
 pub mod joins;
 pub mod linear;
 pub mod slice;
-#[cfg(test)]
-mod tests;
 
 pub use slice::solve_slice;

@@ -72,33 +72,3 @@ fn side_at(side: PtrTerm, places: &Places, input: &Input, base: i32) -> i64
         PtrTerm::At(place) => places.at(place, input, base).unwrap_or(0),
     }
 }
-
-#[cfg(test)]
-mod tests {
-    use super::*;
-    use crate::places::Place;
-    use cc_base::{CellTy, Items};
-    use std::test::Fail;
-
-    #[test]
-    fn holds(rt: HostRuntime) -> Result<(), Fail> {
-        let alloc = rt.alloc();
-        let mut places = Places::new(alloc);
-        let place = places.add(Place::Arg(1), CellTy::Int)?;
-        let input = Input {
-            cells: Items::from_slice(alloc, &[4, -2])?,
-            stream: Items::new(alloc),
-        };
-        assert_eq!(rt; places.len(), 1);
-        assert!(rt; places.get(place).is_some());
-        assert_eq!(rt; places.at(place, &input, 0), Some(-2));
-        if places.at(place, &input, 0).is_some() {
-            assert!(rt;
-                Atom::Le(Form::of(place))
-                    .copy()
-                    .holds_at(&places, &input, 0)
-            );
-        }
-        Ok(())
-    }
-}

@@ -288,21 +288,3 @@ fn narrowed(constant: i128, terms: &[FormTerm]) -> Result<Form, Wide>
         terms: copied(terms),
     })
 }
-
-#[cfg(test)]
-mod tests {
-    use super::*;
-    use std::test::Fail;
-
-    #[test]
-    fn sums(rt: HostRuntime) -> Result<(), Fail> {
-        let place = Form::of(PlaceId(7));
-        let sum = place.add(&Form::number(3))?.scale(2)?;
-        assert_eq!(rt; sum.constant(), 6);
-        assert_eq!(rt; sum.terms().len(), 1);
-        assert_eq!(rt; sum.shift(-1).constant(), 5);
-        assert_eq!(rt; sum.opposite().constant(), -6);
-        assert_eq!(rt; sum.sub(&sum.copy())?.terms().len(), 0);
-        Ok(())
-    }
-}

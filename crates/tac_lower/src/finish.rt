@@ -109,25 +109,3 @@ pub fn all_completed(
     }
     Ok(functions)
 }
-
-#[cfg(test)]
-mod tests {
-    use super::*;
-
-    #[test]
-    fn jumps_lead_to_places(rt: HostRuntime) -> Result<(), NoMemory> {
-        let written = [Instr::Return(0), Instr::Jump(1), Instr::Step];
-        let code = in_order(rt.alloc(), &written, 3)?;
-        assert_eq!(rt; code.get(0).copied(), Some(Instr::Step));
-        assert_eq!(rt; code.get(1).copied(), Some(Instr::Jump(2)));
-        assert_eq!(rt; code.get(2).copied(), Some(Instr::Return(0)));
-        Ok(())
-    }
-
-    #[test]
-    fn temporaries_are_counted(rt: HostRuntime) -> Result<(), NoMemory> {
-        let code = [Instr::Step, Instr::Load(2, 1), Instr::Call(0, 0, 1, 4)];
-        assert_eq!(rt; temporaries(&code)?, 5);
-        Ok(())
-    }
-}

@@ -56,23 +56,3 @@ fn site_of(instruction: Instr) -> Option<SiteId>
         _ => None,
     }
 }
-
-#[cfg(test)]
-mod tests {
-    use super::*;
-    use cc_model::base::NoMemory;
-
-    #[test]
-    fn sites_of_instructions(rt: HostRuntime) -> Result<(), NoMemory> {
-        let code = [Instr::Step, Instr::Neg(SiteId(3), 0, 0), Instr::Return(0)];
-        let tac = Tac {
-            funcs: Items::new(rt.alloc()),
-            globals: 0,
-            code: Items::from_slice(rt.alloc(), &code)?,
-        };
-        assert_eq!(rt; tac.site(0), None);
-        assert_eq!(rt; tac.site(1), Some(SiteId(3)));
-        assert_eq!(rt; tac.site(9), None);
-        Ok(())
-    }
-}

@@ -1,5 +1,0 @@
-use Rattle.std.proofs.Common.{◌-◌, length}
-use Rattle.linear_solver.proofs.table.all_hold.Given as goal
-
-abbrev pub decreases-atoms : goal.decreases-atoms
-decreases-atoms l = length l.row - l.at

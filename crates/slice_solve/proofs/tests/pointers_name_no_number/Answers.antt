@@ -1,6 +1,0 @@
-use Rattle.cc_base.specs.Groups.{form_of}
-use Rattle.slice_solve.proofs.tests.pointers_name_no_number.Goals as goal
-
-pub solve_slice-requires-clause-alternative : goal.solve_slice-requires-clause-alternative
-unfolding form_of
-solve_slice-requires-clause-alternative g c = (tt, tt)
