@@ -11,7 +11,7 @@ trap 'rm -rf "$room"' EXIT
 mkdir "$room/crates"
 for crate in "$top"/crates/*/; do
     name=$(basename "$crate")
-    case $name in tevgoral | row_tests | concolic_cli | search_dfs | path_tree | replay | command_words) continue ;; esac
+    case $name in tevgoral | rows | row_tests | concolic_cli | search_dfs | path_tree | replay | command_words) continue ;; esac
     mkdir "$room/crates/$name"
     cp -r "$crate/src" "$crate/specs" "$crate/proofs" "$room/crates/$name"
     grep "^$name:" "$top/crates.txt" >>"$room/crates.txt"

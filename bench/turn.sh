@@ -10,7 +10,7 @@ trap 'rm -rf "$room"' EXIT
 mkdir "$room/crates"
 for crate in "$top"/crates/*/; do
     name=$(basename "$crate")
-    case $name in tevgoral | row_tests | concolic_cli | search_dfs | path_tree) continue ;; esac
+    case $name in tevgoral | rows | row_tests | concolic_cli | search_dfs | path_tree) continue ;; esac
     mkdir "$room/crates/$name"
     cp -r "$crate/src" "$crate/specs" "$crate/proofs" "$room/crates/$name"
     grep "^$name:" "$top/crates.txt" >>"$room/crates.txt"

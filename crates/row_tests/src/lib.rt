@@ -1,19 +1,35 @@
-//! The worked rows of the tool, as tables over files and sinks in memory.
+//! Tests of functions below the one call of the tool, which is tested by the table of the crate `rows`.
 #![tactic(auto)]
 
 #[cfg(test)]
-mod faults;
+mod codes;
 #[cfg(test)]
-mod replays;
+mod flow;
 #[cfg(test)]
-mod rows;
+mod forms;
 #[cfg(test)]
-mod searches;
+mod linear_atoms;
 #[cfg(test)]
-mod traces;
+mod linear_table;
+#[cfg(test)]
+mod map_texts;
+#[cfg(test)]
+mod memory_cells;
+#[cfg(test)]
+mod open_branches;
+#[cfg(test)]
+mod plain_values;
+#[cfg(test)]
+mod pointer_classes;
+#[cfg(test)]
+mod report_parts;
+#[cfg(test)]
+mod slices;
+#[cfg(test)]
+mod tests_files;
+#[cfg(test)]
+mod tokens;
 #[cfg(test)]
 mod turns;
-#[cfg(test)]
-mod walks;
 #[cfg(test)]
 mod words;

@@ -414,3 +414,91 @@ fn numbers_of_the_stream(rt: HostRuntime) -> Result<(), Fail> {
     ];
     check_rows(&rt, TAKES, deep(1024), BUDGET, &rows)
 }
+
+/// The head of a program whose parameters have the addresses 1 to 4.
+const FOUR_POINTERS: &str = "struct cell { int v; struct cell *next; };
+struct pair { int *a[2]; int n; };
+int f(struct cell *p, struct cell *q, int **r, struct pair *t) {
+";
+
+/// Takes five numbers, and asks for two of them.
+const FIVE_NUMBERS: &str = "
+  int a; int b; int c; int d; int e;
+  CREST_int(a); CREST_int(b); CREST_int(c); CREST_int(d); CREST_int(e);
+  if (c == 5) if (a == 9) return 1;
+";
+
+/// What stands in the function, the least number, and the row.
+const BUILT: [(&str, i32, Row); 9] = [
+    // two parameters share a block
+    (
+        "if (p->v == 7) if (p == q) return 1;",
+        -9,
+        ("5,7,0,0,7,0,0,0", 2, b'T', "5,5,0,0,7,0", "aTT"),
+    ),
+    // a cycle, and one of two blocks
+    (
+        "if (p->next == p) return 1;",
+        -9,
+        ("5,0,0,0,0,0", 1, b'T', "5,0,0,0,0,5", "aT"),
+    ),
+    (
+        "if (p->next->v == 3) if (p->next->next == p) return 1;",
+        -9,
+        ("5,0,0,0,0,7,3,0", 5, b'T', "5,0,0,0,0,7,3,5", "abTabT"),
+    ),
+    // a block is filled by a later parameter's places
+    (
+        "if (q->v == 7) if (p == q) return 1;",
+        -9,
+        ("5,7,0,0,0,0,7,0", 2, b'T', "5,5,0,0,7,0", "aTT"),
+    ),
+    // blocks that are not touched
+    (
+        "if (p == q) return 1;",
+        3,
+        ("5,5,0,0,3,0", 0, b'F', "5,7,0,0,3,0,3,0", "F"),
+    ),
+    // a cell names a parameter's block
+    (
+        "if (q) if (p->next == q) return 1;",
+        -9,
+        ("5,7,0,0,0,0,0,0", 2, b'T', "5,7,0,0,0,7,0,0", "TaT"),
+    ),
+    // a pointer to a pointer
+    (
+        "if (**r == -4) return 1;",
+        -9,
+        ("0,0,5,0,6,0", 3, b'T', "0,0,5,0,6,-4", "ab.T"),
+    ),
+    // an array of pointers
+    (
+        "if (t->n == 4) if (*t->a[1] == 8) if (t->a[0] == t->a[1]) return 1;",
+        -9,
+        (
+            "0,0,0,5,8,9,4,0,8",
+            10,
+            b'T',
+            "0,0,0,5,8,8,4,8",
+            "aTa.bTa.a.T",
+        ),
+    ),
+    // a stream ends with its last place
+    (
+        FIVE_NUMBERS,
+        3,
+        ("0,0,0,0/3,3,5,3,3", 1, b'T', "0,0,0,0/9,3,5,3,3", "TT"),
+    ),
+];
+
+#[test]
+fn built_inputs(rt: HostRuntime) -> Result<(), Fail> {
+    for (body, lo, row) in BUILT {
+        let mut source = String::from_str(rt.alloc(), FOUR_POINTERS)?;
+        source.push_str(body)?;
+        source.push_str(" return 0; }\n")?;
+        let bounds = Bounds::new(lo, 9, 1024, 8, 100_000);
+        check_rows(&rt, source.as_str(), bounds, BUDGET, &[row])?;
+    }
+    Ok(())
+}

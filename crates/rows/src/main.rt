@@ -35,19 +35,20 @@ mod table;
 mod texts;
 mod wanted;
 
-use anyhow::ensure;
+use std::alloc::Global;
 use std::io;
 use table::Table;
 
-fn main(rt: HostRuntime) -> anyhow::Result<()> {
-    let alloc = rt.alloc();
-    let text = io::read_to_string(alloc, rt.reader())?;
+/// Runs the rows of a table.
+fn run(rt: &impl Print, alloc: Global, text: &str) -> anyhow::Result<()> {
     let mut table = Table::new(alloc);
     for line in text.lines() {
-        table.take(&rt, line)?;
+        table.take(rt, line)?;
     }
-    table.end_row(&rt)?;
-    println!(rt; "{} rows, {} differ", table.rows(), table.differ())?;
-    ensure!(table.differ() == 0, "some rows differ");
-    Ok(())
+    table.finish(rt)
+}
+
+fn main(rt: HostRuntime) -> anyhow::Result<()> {
+    let text = io::read_to_string(rt.alloc(), rt.reader())?;
+    run(&rt, rt.alloc(), text.as_str())
 }

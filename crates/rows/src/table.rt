@@ -3,7 +3,7 @@
 use crate::directive::{Directive, RowLine, read_line};
 use crate::row::Row;
 use crate::texts::Texts;
-use anyhow::bail;
+use anyhow::{bail, ensure};
 use std::alloc::Global;
 
 /// What was read so far.
@@ -28,16 +28,6 @@ impl Table {
             rows: 0,
             differ: 0,
         }
-    }
-
-    /// How many rows were run.
-    pub(crate) fn rows(&self) -> u64 {
-        self.rows
-    }
-
-    /// How many of them differ from what is wanted.
-    pub(crate) fn differ(&self) -> u64 {
-        self.differ
     }
 
     /// Takes the next line.
@@ -84,11 +74,16 @@ impl Table {
         Ok(())
     }
 
-    /// Runs the row that stands open.
-    pub(crate) fn end_row(&mut self, rt: &impl Print) -> anyhow::Result<()> {
+    /// Ends the row that stands open.
+    fn end_row(&mut self, rt: &impl Print) -> anyhow::Result<()> {
         let Some(mut row) = self.row.take() else {
             return Ok(());
         };
+        self.run_row(rt, &mut row)
+    }
+
+    /// Runs a row, and writes where it differs.
+    fn run_row(&mut self, rt: &impl Print, row: &mut Row) -> anyhow::Result<()> {
         let status = row.run();
         self.rows = self.rows.saturating_add(1);
         if let Some(name) = &row.keep {
@@ -99,6 +94,14 @@ impl Table {
             self.differ = self.differ.saturating_add(1);
             println!(rt; "line {}: {}: wanted {difference}", row.line, row.text)?;
         }
+        Ok(())
+    }
+
+    /// Ends the last row, and writes how many there were. An error where some differ.
+    pub(crate) fn finish(&mut self, rt: &impl Print) -> anyhow::Result<()> {
+        self.end_row(rt)?;
+        println!(rt; "{} rows, {} differ", self.rows, self.differ)?;
+        ensure!(self.differ == 0, "some rows differ");
         Ok(())
     }
 }
