@@ -1,10 +1,12 @@
 #!/usr/bin/env bash
 # Times the front end on sources of 1,048,576 bytes at most: each is read and checked whole, and the program makes one run
-# of its tested function, or, for `fields` and `many_fields`, says what is too large. Takes the program as ./tevgoral has
-# built it, and prints a table of seconds and of the largest resident memory. No part of the gate. Wants GNU time as
+# of its tested function, or, for `fields` and `many_fields`, says what is too large. Takes the program as
+# ./tevgoral --proved builds it, or PROGRAM, and prints a table of seconds and of the largest resident memory. No part of the gate. Wants GNU time as
 # /usr/bin/time.
 set -euo pipefail
 top=$(cd "$(dirname "$0")/.." && pwd)
+[ -n "${PROGRAM-}" ] || "$top/tevgoral" --proved || exit
+program=${PROGRAM:-$top/crates/tevgoral/out/tevgoral}
 room=$(mktemp -d)
 trap 'rm -rf "$room"' EXIT
 
@@ -54,14 +56,13 @@ make_source() {
 
 lscpu | grep -E '^(Model name|CPU\(s\)):' | sed 's/:  */: /'
 free -g | awk '/^Mem/ { print "Memory: " $2 " GB" }'
-"$top/tevgoral" run "$top/examples/sum.c" f 1 -dfs 1 >/dev/null || true
 printf '%-12s %10s %8s %10s %8s  %s\n' source bytes lines seconds MB answer
 for kind in lines functions globals locals structs typedefs prototypes fields many_fields; do
     for size in $((limit / 8)) $((limit / 4)) $limit; do
         # five thousand functions and 4,096 sites take most of the largest size
         if [ $kind = lines ] && [ "$size" -lt $limit ]; then continue; fi
         make_source "$kind" "$size" >"$room/source.c"
-        /usr/bin/time -f '%e %M' -o "$room/time" "$top/tevgoral" run "$room/source.c" f 1 -dfs 1 >"$room/out" 2>"$room/err" || true
+        /usr/bin/time -f '%e %M' -o "$room/time" "$program" run "$room/source.c" f 1 -dfs 1 >"$room/out" 2>"$room/err" || true
         read -r seconds kilobytes < <(tail -n 1 "$room/time")
         printf '%-12s %10d %8d %10s %8d  %s\n' "$kind" "$(wc -c <"$room/source.c")" "$(wc -l <"$room/source.c")" "$seconds" $((kilobytes / 1024)) "$(head -c 60 "$room/err" | head -n 1)"
     done

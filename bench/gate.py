@@ -5,6 +5,10 @@
     bench/gate.py table LOG          prints, for each crate, the processor minutes of its proof, of its tests, of what its
                                      edits begin with and of its edits, with the peak of its memory, as a table
     bench/gate.py edits LOG          prints the processor seconds of each must-fail edit, the longest first
+    bench/gate.py functions FOLDER   prints where the time of one check went, function by function and lemma file by lemma
+                                     file, the longest first. FOLDER is what a check from nothing by one job kept, as
+                                     crates/NAME/out/incremental behind `rt check --jobs 1`: a file stands there for each
+                                     module, and was written when that module was checked
 
 A check is a process of `rattle` with its children. What a process takes between the last look and its end is lost: at most
 a quarter of a second. Memory is what the processes hold resident. A gate from nothing is one on a machine on which
@@ -154,9 +158,34 @@ def edits(whole):
         print(f"{seconds:7.1f} s {peak / 1e9:5.1f} GB  {crate}/{names[int(number)] if number.isdigit() and int(number) < len(names) else number}")
 
 
+# Parts of a function's check, each a module of its own.
+PARTS = r"\.(Answers|Goals|Code|TheLink|Symbol|Statement|Proof|Key|Mir|Invariants|Lts|Tie|Kinds|Layout|Reads|Given|View|Named|The\w+)(\.|$).*"
+
+
+def functions(folder):
+    modules = []
+    for at, _, names in os.walk(folder):
+        for name in names:
+            if name.endswith(".oantt") and not name.endswith(".decls.oantt"):
+                modules.append((os.stat(f"{at}/{name}").st_mtime, re.sub(r"^Rattle-\w+?-(proofs|specs)\.", "", name[: -len(".oantt")])))
+    modules.sort()
+    taken, before = {}, modules[0][0] if modules else 0
+    for moment, name in modules:
+        whole = re.sub(PARTS, "", name)
+        taken[whole] = taken.get(whole, 0) + moment - before
+        before = moment
+    for name, seconds in sorted(taken.items(), key=lambda it: -it[1]):
+        if seconds >= 0.5:
+            print(f"{seconds:7.1f} s  {name}")
+    print(f"{sum(taken.values()):7.1f} s  all of {len(modules)} modules")
+
+
 def main(words):
     if len(words) >= 2 and words[0] == "run":
         return run(words[1], words[2:])
+    if len(words) == 2 and words[0] == "functions":
+        functions(words[1])
+        return 0
     if len(words) == 2 and words[0] in ("table", "edits"):
         with open(words[1]) as it:
             (table if words[0] == "table" else edits)(json.load(it))

@@ -1,9 +1,10 @@
 #!/usr/bin/env bash
 # Times `replay` of 10,000 tests of examples/cell.c: the report of a search, its tests one after the other until there are so
-# many. Takes the program as ./tevgoral has built it, or PROGRAM. No part of the gate. Wants GNU time as /usr/bin/time.
+# many. Takes the program as ./tevgoral --proved builds it, or PROGRAM. No part of the gate. Wants GNU time as /usr/bin/time.
 set -euo pipefail
 top=$(cd "$(dirname "$0")/.." && pwd)
-program=${PROGRAM:-$top/tevgoral}
+[ -n "${PROGRAM-}" ] || "$top/tevgoral" --proved || exit
+program=${PROGRAM:-$top/crates/tevgoral/out/tevgoral}
 room=$(mktemp -d)
 trap 'rm -rf "$room"' EXIT
 cd "$room"

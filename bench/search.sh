@@ -1,12 +1,13 @@
 #!/usr/bin/env bash
-# Times whole searches by the program as ./tevgoral has built it, or by the one that PROGRAM names: a made program of N
+# Times whole searches by the program as ./tevgoral --proved builds it, or by the one that PROGRAM names: a made program of N
 # branches, K independent branches on K parameters, a walk along a list to a depth, and the list cell of examples/cell.c.
 # Prints paths, runs, seconds, paths per second and the largest resident memory. What one path costs must not grow with the
 # paths that are listed, so the independent branches stand in three sizes. No part of the gate. Wants GNU time as
 # /usr/bin/time.
 set -euo pipefail
 top=$(cd "$(dirname "$0")/.." && pwd)
-program=${PROGRAM:-$top/tevgoral}
+[ -n "${PROGRAM-}" ] || "$top/tevgoral" --proved || exit
+program=${PROGRAM:-$top/crates/tevgoral/out/tevgoral}
 room=$(mktemp -d)
 trap 'rm -rf "$room"' EXIT
 

@@ -1,10 +1,11 @@
 #!/usr/bin/env bash
 # Times the walks: up to 10,000 runs of each on a list program, and the flow-directed one on decisions that hang on one
 # parameter each, so that each run covers something new. The flow-directed walk ends where nothing new is in reach. Takes the
-# program as ./tevgoral has built it, or PROGRAM. No part of the gate. Wants GNU time as /usr/bin/time.
+# program as ./tevgoral --proved builds it, or PROGRAM. No part of the gate. Wants GNU time as /usr/bin/time.
 set -euo pipefail
 top=$(cd "$(dirname "$0")/.." && pwd)
-program=${PROGRAM:-$top/tevgoral}
+[ -n "${PROGRAM-}" ] || "$top/tevgoral" --proved || exit
+program=${PROGRAM:-$top/crates/tevgoral/out/tevgoral}
 room=$(mktemp -d)
 trap 'rm -rf "$room"' EXIT
 cd "$room"
