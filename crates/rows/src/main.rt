@@ -37,18 +37,12 @@ mod wanted;
 
 use anyhow::ensure;
 use std::io;
-use table::Table;
+use table::run_table;
 
 fn main(rt: HostRuntime) -> anyhow::Result<()> {
     let text = io::read_to_string(rt.alloc(), rt.reader())?;
-    let mut table = Table::new(rt.alloc());
-    table.run(text.as_str())?;
-    println!(rt;
-        "{}{} rows, {} differ",
-        table.told(),
-        table.rows(),
-        table.differ()
-    )?;
-    ensure!(table.differ() == 0, "some rows differ");
+    let told = run_table(rt.alloc(), text.as_str())?;
+    println!(rt; "{}", told.text)?;
+    ensure!(told.differ == 0, "some rows differ");
     Ok(())
 }

@@ -5,10 +5,29 @@ use crate::row::Row;
 use crate::texts::Texts;
 use anyhow::bail;
 use std::alloc::Global;
+use std::fmt::Write;
+
+/// What is told of a table: a line for each row that differs, and how many there were.
+#[derive(Drop)]
+pub(crate) struct Told {
+    pub(crate) text: String,
+    pub(crate) differ: u64,
+}
+
+/// Runs the rows of a table.
+pub(crate) fn run_table(alloc: Global, text: &str) -> anyhow::Result<Told> {
+    let mut table = Table::new(alloc);
+    table.take_all(text)?;
+    write!(table.told, "{} rows, {} differ", table.rows, table.differ)?;
+    Ok(Told {
+        text: table.told,
+        differ: table.differ,
+    })
+}
 
 /// What was read so far, and the row that stands open.
 #[derive(Drop)]
-pub(crate) struct Table {
+struct Table {
     alloc: Global,
     texts: Texts,
     row: Option<Row>,
@@ -20,7 +39,7 @@ pub(crate) struct Table {
 
 impl Table {
     /// An empty table.
-    pub(crate) fn new(alloc: Global) -> Table {
+    fn new(alloc: Global) -> Table {
         Table {
             alloc,
             texts: Texts::new(alloc),
@@ -32,23 +51,8 @@ impl Table {
         }
     }
 
-    /// How many rows were run.
-    pub(crate) fn rows(&self) -> u64 {
-        self.rows
-    }
-
-    /// How many of them differ from what is wanted.
-    pub(crate) fn differ(&self) -> u64 {
-        self.differ
-    }
-
-    /// A line for each row that differs.
-    pub(crate) fn told(&self) -> &str {
-        self.told.as_str()
-    }
-
-    /// Runs the rows of a text.
-    pub(crate) fn run(&mut self, text: &str) -> anyhow::Result<()> {
+    /// Takes the lines of a text.
+    fn take_all(&mut self, text: &str) -> anyhow::Result<()> {
         for line in text.lines() {
             self.lines = self.lines.saturating_add(1);
             let Some(directive) = read_line(line) else {
