@@ -42,7 +42,8 @@ pub(crate) struct Compiled {
 
 /// The program of a source, to test the function f.
 pub(crate) fn compile(alloc: Global, source: &[u8]) -> Result<Compiled, Fail>
-    ensures compiles { IfOk result (λ c. Compiles (core_of c.checked) (map (seen c.checked) c.tac.code) (λ f. first_in c.tac f)) }
+    ensures compiles { IfOk result (λ c. Compiles (core_of c.checked) (map (seen c.checked) c.tac.code)
+        (λ f. first_in c.tac f)) }
     ensures points { IfOk result (λ c. PointsToCells (core_of c.checked).layouts (params_of (core_of c.checked))) }
 {
     a_checked_program_points_to_cells();
@@ -152,8 +153,10 @@ fn check_input(
     input: &Input,
     row: Row,
 ) -> Result<(), Fail>
-    requires compiles { Compiles (core_of (compiled.now).checked) (map (seen (compiled.now).checked) (compiled.now).tac.code) (λ f. first_in (compiled.now).tac f) }
-    requires points { PointsToCells (core_of (compiled.now).checked).layouts (params_of (core_of (compiled.now).checked)) }
+    requires compiles { Compiles (core_of (compiled.now).checked)
+        (map (seen (compiled.now).checked) (compiled.now).tac.code) (λ f. first_in (compiled.now).tac f) }
+    requires points { PointsToCells (core_of (compiled.now).checked).layouts
+        (params_of (core_of (compiled.now).checked)) }
     requires input { IsInput (core_of (compiled.now).checked) bounds.now input.now }
 {
     let (from, k, _byte, answer, path) = row;
@@ -174,8 +177,10 @@ fn check_row(
     budget: u64,
     row: Row,
 ) -> Result<(), Fail>
-    requires compiles { Compiles (core_of (compiled.now).checked) (map (seen (compiled.now).checked) (compiled.now).tac.code) (λ f. first_in (compiled.now).tac f) }
-    requires points { PointsToCells (core_of (compiled.now).checked).layouts (params_of (core_of (compiled.now).checked)) }
+    requires compiles { Compiles (core_of (compiled.now).checked)
+        (map (seen (compiled.now).checked) (compiled.now).tac.code) (λ f. first_in (compiled.now).tac f) }
+    requires points { PointsToCells (core_of (compiled.now).checked).layouts
+        (params_of (core_of (compiled.now).checked)) }
 {
     let (from, k, byte, answer, _path) = row;
     let alloc = rt.alloc();

@@ -35,20 +35,14 @@ mod table;
 mod texts;
 mod wanted;
 
-use std::alloc::Global;
+use anyhow::ensure;
 use std::io;
-use table::Table;
-
-/// Runs the rows of a table.
-fn run(rt: &impl Print, alloc: Global, text: &str) -> anyhow::Result<()> {
-    let mut table = Table::new(alloc);
-    for line in text.lines() {
-        table.take(rt, line)?;
-    }
-    table.finish(rt)
-}
+use table::run_table;
 
 fn main(rt: HostRuntime) -> anyhow::Result<()> {
     let text = io::read_to_string(rt.alloc(), rt.reader())?;
-    run(&rt, rt.alloc(), text.as_str())
+    let told = run_table(rt.alloc(), text.as_str())?;
+    println!(rt; "{}", told.text)?;
+    ensure!(told.differ == 0, "some rows differ");
+    Ok(())
 }

@@ -7,13 +7,15 @@ use anyhow::bail;
 use cc_outside::{MemFiles, MemSink};
 use concolic_cli::concolic;
 use std::alloc::Global;
+use std::fmt;
+use std::fmt::Write;
 
 /// A row: the line that it begins at, and its words as they stand there.
 #[derive(Drop)]
 pub(crate) struct Row {
     alloc: Global,
-    pub(crate) line: u64,
-    pub(crate) text: String,
+    line: u64,
+    text: String,
     words: Vec<String>,
     files: MemFiles,
     out: MemSink,
@@ -79,19 +81,28 @@ impl Row {
         Ok(str::from_utf8(self.out.bytes())?)
     }
 
-    /// What is wanted and what came, where they differ.
-    pub(crate) fn difference(&self, status: u8) -> anyhow::Result<Option<String>> {
-        let report = self.written()?;
+    /// Whether what came is not what is wanted; where so, a line is added.
+    pub(crate) fn tell(&self, status: u8, told: &mut String) -> anyhow::Result<bool> {
         let error = str::from_utf8(self.err.bytes())?;
-        if let Some((wanted, came)) = self.report.difference(report) {
-            return Ok(Some(format!(in self.alloc; "report {wanted:?}, came {came:?}")?));
+        if let Some((wanted, came)) = self.report.difference(self.written()?) {
+            writeln!(told, "{self}: wanted the report {wanted:?}, came {came:?}")?;
+        } else if let Some((wanted, came)) = self.error.difference(error) {
+            writeln!(told, "{self}: wanted the error {wanted:?}, came {came:?}")?;
+        } else if !self.status.is_met(status) {
+            writeln!(
+                told,
+                "{self}: wanted the status {}, came {status}",
+                self.status
+            )?;
+        } else {
+            return Ok(false);
         }
-        if let Some((wanted, came)) = self.error.difference(error) {
-            return Ok(Some(format!(in self.alloc; "error {wanted:?}, came {came:?}")?));
-        }
-        if !self.status.is_met(status) {
-            return Ok(Some(format!(in self.alloc; "status {}, came {status}", self.status)?));
-        }
-        Ok(None)
+        Ok(true)
+    }
+}
+
+impl fmt::Display for Row {
+    fn fmt<W: fmt::Write>(&self, f: &mut fmt::Formatter<W>) -> fmt::Result {
+        write!(f, "line {}: {}", self.line, self.text)
     }
 }
