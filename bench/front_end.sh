@@ -3,12 +3,8 @@
 # of its tested function, or, for `fields` and `many_fields`, says what is too large. Takes the program as
 # ./tevgoral --proved builds it, or PROGRAM, and prints a table of seconds and of the largest resident memory. No part of the gate. Wants GNU time as
 # /usr/bin/time.
-set -euo pipefail
-top=$(cd "$(dirname "$0")/.." && pwd)
-[ -n "${PROGRAM-}" ] || "$top/tevgoral" --proved || exit
-program=${PROGRAM:-$top/crates/tevgoral/out/tevgoral}
-room=$(mktemp -d)
-trap 'rm -rf "$room"' EXIT
+source "$(dirname "$0")/common.sh"
+take_program
 
 limit=1048576
 
@@ -54,8 +50,7 @@ make_source() {
     }'
 }
 
-lscpu | grep -E '^(Model name|CPU\(s\)):' | sed 's/:  */: /'
-free -g | awk '/^Mem/ { print "Memory: " $2 " GB" }'
+tell_machine
 printf '%-12s %10s %8s %10s %8s  %s\n' source bytes lines seconds MB answer
 for kind in lines functions globals locals structs typedefs prototypes fields many_fields; do
     for size in $((limit / 8)) $((limit / 4)) $limit; do

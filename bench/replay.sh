@@ -1,17 +1,13 @@
 #!/usr/bin/env bash
 # Times `replay` of 10,000 tests of examples/cell.c: the report of a search, its tests one after the other until there are so
 # many. Takes the program as ./tevgoral --proved builds it, or PROGRAM. No part of the gate. Wants GNU time as /usr/bin/time.
-set -euo pipefail
-top=$(cd "$(dirname "$0")/.." && pwd)
-[ -n "${PROGRAM-}" ] || "$top/tevgoral" --proved || exit
-program=${PROGRAM:-$top/crates/tevgoral/out/tevgoral}
-room=$(mktemp -d)
-trap 'rm -rf "$room"' EXIT
+source "$(dirname "$0")/common.sh"
+take_program
 cd "$room"
 
 cp "$top/examples/cell.c" t.c
 "$program" run t.c testme 100 -dfs 10 >report || true
-lscpu | grep -E '^(Model name|CPU\(s\)):' | sed 's/:  */: /'
+tell_machine
 printf '%8s %10s %10s %8s  %s\n' tests bytes seconds MB answer
 for count in 1000 10000 100000; do
     awk -v count="$count" 'NR == 1 { print } $1 == "test" { tests[n++] = $0 }

@@ -4,12 +4,8 @@
 # Prints paths, runs, seconds, paths per second and the largest resident memory. What one path costs must not grow with the
 # paths that are listed, so the independent branches stand in three sizes. No part of the gate. Wants GNU time as
 # /usr/bin/time.
-set -euo pipefail
-top=$(cd "$(dirname "$0")/.." && pwd)
-[ -n "${PROGRAM-}" ] || "$top/tevgoral" --proved || exit
-program=${PROGRAM:-$top/crates/tevgoral/out/tevgoral}
-room=$(mktemp -d)
-trap 'rm -rf "$room"' EXIT
+source "$(dirname "$0")/common.sh"
+take_program
 
 # K parameters, each with a branch of its own
 independent() {
@@ -48,8 +44,7 @@ measure() {
     }'
 }
 
-lscpu | grep -E '^(Model name|CPU\(s\)):' | sed 's/:  */: /'
-free -g | awk '/^Mem/ { print "Memory: " $2 " GB" }'
+tell_machine
 "$program" run "$top/examples/cell.c" testme 1 -dfs 1 >/dev/null || true
 printf '%-12s %6s %8s %9s %10s %7s  %s\n' search size paths seconds paths/s MB 'last line'
 for n in 256 512 1024; do

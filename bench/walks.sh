@@ -2,12 +2,8 @@
 # Times the walks: up to 10,000 runs of each on a list program, and the flow-directed one on decisions that hang on one
 # parameter each, so that each run covers something new. The flow-directed walk ends where nothing new is in reach. Takes the
 # program as ./tevgoral --proved builds it, or PROGRAM. No part of the gate. Wants GNU time as /usr/bin/time.
-set -euo pipefail
-top=$(cd "$(dirname "$0")/.." && pwd)
-[ -n "${PROGRAM-}" ] || "$top/tevgoral" --proved || exit
-program=${PROGRAM:-$top/crates/tevgoral/out/tevgoral}
-room=$(mktemp -d)
-trap 'rm -rf "$room"' EXIT
+source "$(dirname "$0")/common.sh"
+take_program
 cd "$room"
 
 cat >list.c <<'C'
@@ -36,7 +32,7 @@ independent() {
     }'
 }
 
-lscpu | grep -E '^(Model name|CPU\(s\)):' | sed 's/:  */: /'
+tell_machine
 printf '%-8s %-16s %8s %10s %8s  %s\n' source walk runs seconds MB last
 row() {
     /usr/bin/time -f '%e %M' -o time "$program" run "$1.c" f "$2" "$3" "$4" >report 2>&1 || true
