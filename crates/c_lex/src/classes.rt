@@ -2,7 +2,8 @@
 
 ghost use Rattle.std.specs.Prelude.{◌≡◌, ◌≤◌, IsTrue, length, drop};
 ghost use Rattle.std.specs.List.{prefix_len, position_or_len, take_while, list_all};
-ghost use Rattle.cc_model.specs.Lexical.{is_newline, is_blank, is_digit, is_letter, is_name_byte, skip_blanks, line_of, begins};
+ghost use Rattle.cc_model.specs.Lexical.{is_newline, is_blank, is_digit, is_letter, is_name_byte, skip_blanks, line_of};
+ghost use Rattle.cc_model.specs.Lexical.{begins};
 
 #[tactic(auto, unfolding(cc_model::specs::Lexical::is_newline))]
 pub fn is_newline(b: u8) -> bool

@@ -1,4 +1,5 @@
-//! Lists of named things that are found by name without a walk over them: an index of first places stands behind each list, and contracts see the list alone.
+//! Lists of named things that are found by name without a walk over them: an index of first places stands behind each
+//! list, and contracts see the list alone.
 #![tactic(auto)]
 
 pub mod name_index;

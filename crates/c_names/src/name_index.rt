@@ -27,7 +27,8 @@ impl Model for NameIndex {
 
     ghost view = { λ s. s.names };
 
-    ghost invariant = { λ s. (name : List ℕ) → get_by (λ k. bytes_eq name k.items) s.places ≡ position (bytes_eq name) s.names };
+    ghost invariant = { λ s. (name : List ℕ)
+        → get_by (λ k. bytes_eq name k.items) s.places ≡ position (bytes_eq name) s.names };
 }
 
 impl NameIndex {

@@ -23,7 +23,10 @@ pub fn put(
     name: &[u8],
     place: usize,
 ) -> Result<(), NoMemory>
-    ensures found { OnOk result ((q : List ℕ) → get_by (λ k. bytes_eq q k.items) places.new ≡ scopes.or_else (get_by (λ k. bytes_eq q k.items) places.old) (if bytes_eq q name.now then Some place else None)) }
+    ensures found { OnOk result ((q : List ℕ)
+        → get_by (λ k. bytes_eq q k.items) places.new
+        ≡ scopes.or_else (get_by (λ k. bytes_eq q k.items) places.old)
+        (if bytes_eq q name.now then Some place else None)) }
     ensures kept { OnErr result (places.new.entries ≡ places.old.entries) }
 {
     if place_of(places, name).is_some() {

@@ -28,7 +28,13 @@ impl Model for Preceding {
 
     ghost Value = { Before };
 
-    ghost view = { λ p. record { aliases = p.aliases; structs = p.structs; globals = p.globals; functions = p.functions; bodies = p.bodies } };
+    ghost view = { λ p. record {
+      aliases = p.aliases;
+      structs = p.structs;
+      globals = p.globals;
+      functions = p.functions;
+      bodies = p.bodies;
+    } };
 }
 
 impl Preceding {

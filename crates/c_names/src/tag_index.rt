@@ -12,7 +12,8 @@ use sqlite_items::Items;
 use std::alloc::Global;
 use std::marker::Model;
 
-/// The tags of structs in order, where a struct may have none, and the place of the first struct of each tag. Contracts see the list of tags.
+/// The tags of structs in order, where a struct may have none, and the place of the first struct of each tag. Contracts
+/// see the list of tags.
 #[derive(Drop)]
 pub struct TagIndex {
     alloc: Global,

@@ -44,7 +44,9 @@ impl Parser<'_> {
 
     /// The lengths that stand there.
     fn lengths(&self, spot: Spot) -> Result<(Items<Length>, Spot), ParseFault>
-        ensures shown { Shows (λ n. of.many (kind_at self.now.tokens.now) shallow (of.lacks (kind_at self.now.tokens.now) shallow OpenSquare) (of.length (kind_at self.now.tokens.now) shallow) n []) (place spot) result }
+        ensures shown { Shows (λ n. of.many (kind_at self.now.tokens.now) shallow
+            (of.lacks (kind_at self.now.tokens.now) shallow OpenSquare)
+            (of.length (kind_at self.now.tokens.now) shallow) n []) (place spot) result }
         ensures onward { IfOk result (λ x. spot.at ≤ x.1.at) }
     {
         let mut items = Items::new(self.alloc);
@@ -65,7 +67,8 @@ impl Parser<'_> {
         name: u32,
         here: Spot,
     ) -> Result<(Declarator, Spot), ParseFault>
-        ensures shown { Shows (λ n. of.declarator_from (kind_at self.now.tokens.now) shallow n level stars name) (place here) result }
+        ensures shown { Shows (λ n. of.declarator_from (kind_at self.now.tokens.now) shallow n level stars name)
+            (place here) result }
         ensures onward { IfOk result (λ x. here.at ≤ x.1.at) }
     {
         let (lengths, end) = self.lengths(here)?;
@@ -112,7 +115,8 @@ impl Parser<'_> {
         here: Spot,
     ) -> Result<(Declared, Spot), ParseFault>
         requires { here.at < 1048576 }
-        ensures shown { Shows (λ n. of.starting (kind_at self.now.tokens.now) shallow n level declarator) (place here) result }
+        ensures shown { Shows (λ n. of.starting (kind_at self.now.tokens.now) shallow n level declarator)
+            (place here) result }
         ensures onward { IfOk result (λ x. here.at ≤ x.1.at) }
     {
         let inner = self.take_pass(here)?;
@@ -127,7 +131,8 @@ impl Parser<'_> {
 
     /// The declarators of a declaration that stand there.
     fn declared_list(&self, spot: Spot) -> Result<(Items<Declared>, Spot), ParseFault>
-        ensures shown { Shows (λ n. of.commas (kind_at self.now.tokens.now) shallow (of.initialised (kind_at self.now.tokens.now) shallow) n) (place spot) result }
+        ensures shown { Shows (λ n. of.commas (kind_at self.now.tokens.now) shallow
+            (of.initialised (kind_at self.now.tokens.now) shallow) n) (place spot) result }
         ensures onward { IfOk result (λ x. spot.at ≤ x.1.at) }
     {
         let mut items = Items::new(self.alloc);

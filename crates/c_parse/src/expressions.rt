@@ -93,7 +93,8 @@ impl Parser<'_> {
     ) -> Result<(Expr, Spot), ParseFault>
         requires there { here.at < 1048576 }
         requires seen { StepAt step (kind_at self.now.tokens.now here.at) }
-        ensures shown { Steps (λ e n. of.more (kind_at self.now.tokens.now) shallow n first e) value (place here) result }
+        ensures shown { Steps (λ e n. of.more (kind_at self.now.tokens.now) shallow n first e) value
+            (place here) result }
         ensures further { IfOk result (λ x. (here.level < x.1.level) × (here.level ≤ 200)) }
         ensures onward { IfOk result (λ x. here.at ≤ x.1.at) }
     {

@@ -6,8 +6,9 @@ ghost use Rattle.c_parse.specs.declared.fault.ParseFault.TheVariants.{NoMemory};
 use std::alloc::AllocError;
 use thiserror::Error;
 
-/// Why no program is given. A number is a token's index, from 0; one that is the number of the tokens is the end of the file.
-/// So far it is promised that the tokens are no accepted program, and not which of the two faults is named, nor where.
+/// Why no program is given. A number is a token's index, from 0; one that is the number of the tokens is the end of the
+/// file. So far it is promised that the tokens are no accepted program, and not which of the two faults is named, nor
+/// where.
 #[derive(Clone, Copy, Debug, Error)]
 pub enum ParseFault {
     /// The tokens are no program of the grammar: no rule takes this one.

@@ -25,7 +25,8 @@ impl Parser<'_> {
 
     /// The declarators of a line of fields that stand there.
     fn declarators(&self, spot: Spot) -> Result<(Items<Declarator>, Spot), ParseFault>
-        ensures shown { Shows (λ n. stmts.commas (kind_at self.now.tokens.now) shallow (stmts.declarator (kind_at self.now.tokens.now) shallow) n) (place spot) result }
+        ensures shown { Shows (λ n. stmts.commas (kind_at self.now.tokens.now) shallow
+            (stmts.declarator (kind_at self.now.tokens.now) shallow) n) (place spot) result }
         ensures onward { IfOk result (λ x. spot.at ≤ x.1.at) }
     {
         let mut items = Items::new(self.alloc);
@@ -85,7 +86,8 @@ impl Parser<'_> {
     /// The number that stands there, as a start value.
     fn number_value(&self, spot: Spot, value: i32) -> Result<(StartValue, Spot), ParseFault>
         requires { spot.at < 1048576 }
-        ensures shown { Shows (λ _. of_item.number_value (kind_at self.now.tokens.now) shallow value) (place spot) result }
+        ensures shown { Shows (λ _. of_item.number_value (kind_at self.now.tokens.now) shallow value)
+            (place spot) result }
         ensures onward { IfOk result (λ x. spot.at ≤ x.1.at) }
     {
         let after = self.take_pass(spot)?;
@@ -130,7 +132,8 @@ impl Parser<'_> {
         declarator: Declarator,
         here: Spot,
     ) -> Result<(GlobalPart, Spot), ParseFault>
-        ensures shown { Shows (λ n. of_item.global_from (kind_at self.now.tokens.now) shallow n declarator) (place here) result }
+        ensures shown { Shows (λ n. of_item.global_from (kind_at self.now.tokens.now) shallow n declarator)
+            (place here) result }
         ensures onward { IfOk result (λ x. here.at ≤ x.1.at) }
     {
         if !is_sign(Punct::Assign, self.kind(here.at)) {
@@ -159,7 +162,8 @@ impl Parser<'_> {
         first: GlobalPart,
         spot: Spot,
     ) -> Result<(Items<GlobalPart>, Spot), ParseFault>
-        ensures shown { Shows (λ n. stmts.commas_more (kind_at self.now.tokens.now) shallow (of_item.global (kind_at self.now.tokens.now) shallow) n (first ∷ [])) (place spot) result }
+        ensures shown { Shows (λ n. stmts.commas_more (kind_at self.now.tokens.now) shallow
+            (of_item.global (kind_at self.now.tokens.now) shallow) n (first ∷ [])) (place spot) result }
         ensures onward { IfOk result (λ x. spot.at ≤ x.1.at) }
     {
         let mut items = Items::new(self.alloc);
@@ -181,7 +185,8 @@ impl Parser<'_> {
         declarator: Declarator,
         here: Spot,
     ) -> Result<(Item, Spot), ParseFault>
-        ensures shown { Shows (λ n. of_item.globals_from (kind_at self.now.tokens.now) shallow n base declarator) (place here) result }
+        ensures shown { Shows (λ n. of_item.globals_from (kind_at self.now.tokens.now) shallow n base declarator)
+            (place here) result }
         ensures onward { IfOk result (λ x. here.at < x.1.at) }
     {
         let (first, behind) = self.global_from(declarator, here)?;
@@ -209,7 +214,8 @@ impl Parser<'_> {
 
     /// One parameter or more that stand there.
     fn proto_list(&self, spot: Spot) -> Result<(Items<ProtoParam>, Spot), ParseFault>
-        ensures shown { Shows (λ n. stmts.commas (kind_at self.now.tokens.now) shallow (of_item.proto (kind_at self.now.tokens.now) shallow) n) (place spot) result }
+        ensures shown { Shows (λ n. stmts.commas (kind_at self.now.tokens.now) shallow
+            (of_item.proto (kind_at self.now.tokens.now) shallow) n) (place spot) result }
         ensures onward { IfOk result (λ x. spot.at ≤ x.1.at) }
     {
         let mut items = Items::new(self.alloc);
@@ -268,7 +274,8 @@ impl Parser<'_> {
         protos: Items<ProtoParam>,
         here: Spot,
     ) -> Result<(Item, Spot), ParseFault>
-        ensures shown { Shows (λ n. of_item.bodied (kind_at self.now.tokens.now) shallow n returned name protos) (place here) result }
+        ensures shown { Shows (λ n. of_item.bodied (kind_at self.now.tokens.now) shallow n returned name protos)
+            (place here) result }
         ensures onward { IfOk result (λ x. here.at < x.1.at) }
     {
         let named = with_names(self.alloc, &protos)?;
@@ -295,7 +302,8 @@ impl Parser<'_> {
         protos: Items<ProtoParam>,
         here: Spot,
     ) -> Result<(Item, Spot), ParseFault>
-        ensures shown { Shows (λ n. of_item.ending (kind_at self.now.tokens.now) shallow n returned name protos) (place here) result }
+        ensures shown { Shows (λ n. of_item.ending (kind_at self.now.tokens.now) shallow n returned name protos)
+            (place here) result }
         ensures onward { IfOk result (λ x. here.at < x.1.at) }
     {
         if is_sign(Punct::OpenBrace, self.kind(here.at)) {
@@ -312,7 +320,8 @@ impl Parser<'_> {
         name: u32,
         here: Spot,
     ) -> Result<(Item, Spot), ParseFault>
-        ensures shown { Shows (λ n. of_item.function_from (kind_at self.now.tokens.now) shallow n returned name) (place here) result }
+        ensures shown { Shows (λ n. of_item.function_from (kind_at self.now.tokens.now) shallow n returned name)
+            (place here) result }
         ensures onward { IfOk result (λ x. here.at < x.1.at) }
     {
         let (protos, end) = self.heading(here)?;
@@ -336,7 +345,8 @@ impl Parser<'_> {
 
     /// The fields and the name of a `typedef struct` that stand there.
     fn struct_type(&self, tag: Option<u32>, spot: Spot) -> Result<(Item, Spot), ParseFault>
-        ensures shown { Shows (λ n. of_item.struct_type (kind_at self.now.tokens.now) shallow n tag) (place spot) result }
+        ensures shown { Shows (λ n. of_item.struct_type (kind_at self.now.tokens.now) shallow n tag)
+            (place spot) result }
         ensures onward { IfOk result (λ x. spot.at < x.1.at) }
     {
         let (fields, named) = self.fields(spot)?;
@@ -406,7 +416,8 @@ impl Parser<'_> {
         name: u32,
         here: Spot,
     ) -> Result<(Item, Spot), ParseFault>
-        ensures shown { Shows (λ n. of_item.globals_named (kind_at self.now.tokens.now) shallow n level ty.base ty.stars name) (place here) result }
+        ensures shown { Shows (λ n. of_item.globals_named
+            (kind_at self.now.tokens.now) shallow n level ty.base ty.stars name) (place here) result }
         ensures onward { IfOk result (λ x. here.at < x.1.at) }
     {
         let (declarator, end) = self.declarator_from(level, ty.stars, name, here)?;
@@ -415,7 +426,8 @@ impl Parser<'_> {
 
     /// A function with a result, or globals, behind their type.
     fn typed_from(&self, base: Base, spot: Spot) -> Result<(Item, Spot), ParseFault>
-        ensures shown { Shows (λ n. of_item.typed_from (kind_at self.now.tokens.now) shallow n base) (place spot) result }
+        ensures shown { Shows (λ n. of_item.typed_from (kind_at self.now.tokens.now) shallow n base)
+            (place spot) result }
         ensures onward { IfOk result (λ x. spot.at < x.1.at) }
     {
         let (stars, named) = self.stars(spot)?;
@@ -429,7 +441,8 @@ impl Parser<'_> {
 
     /// The function with a result, or the globals, that stand there.
     fn typed(&self, spot: Spot) -> Result<(Item, Spot), ParseFault>
-        ensures shown { Shows (λ n. of_item.item_of (kind_at self.now.tokens.now) shallow n of_item.a_typed) (place spot) result }
+        ensures shown { Shows (λ n. of_item.item_of (kind_at self.now.tokens.now) shallow n of_item.a_typed)
+            (place spot) result }
         ensures onward { IfOk result (λ x. spot.at < x.1.at) }
     {
         let (base, here) = self.base_type(spot)?;

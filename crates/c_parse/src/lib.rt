@@ -26,7 +26,8 @@ use cc_model::{Program, Token};
 pub use fault::ParseFault;
 use std::alloc::Global;
 
-/// The program that the tokens are. `Syntax` or `TooDeep` where they are accepted as none, at the token where the parser found it; `NoMemory` where memory runs out.
+/// The program that the tokens are. `Syntax` or `TooDeep` where they are accepted as none, at the token where the
+/// parser found it; `NoMemory` where memory runs out.
 pub fn parse(alloc: Global, tokens: &[Token]) -> Result<Program, ParseFault>
     requires { length tokens.now ≤ 1048576 }
     // The tokens are accepted as the program that is given.
@@ -34,7 +35,8 @@ pub fn parse(alloc: Global, tokens: &[Token]) -> Result<Program, ParseFault>
     // The program that they are accepted as is given, unless memory runs out.
     ensures only { (p : Program) → Accepts tokens.now p → GivesOnly result p }
     // A fault of the tokens comes only where they are accepted as no program.
-    ensures refused { (k : ℕ) → (result ≡ Err (ParseFault.Syntax k)) ⊎ (result ≡ Err (ParseFault.TooDeep k)) → (p : Program) → Accepts tokens.now p → ⊥ }
+    ensures refused { (k : ℕ) → (result ≡ Err (ParseFault.Syntax k)) ⊎ (result ≡ Err (ParseFault.TooDeep k))
+        → (p : Program) → Accepts tokens.now p → ⊥ }
 {
     let parser = Parser { alloc, tokens };
     let (items, _end) = parser.items(Spot { at: 0, level: 0 })?;
@@ -43,5 +45,6 @@ pub fn parse(alloc: Global, tokens: &[Token]) -> Result<Program, ParseFault>
 
 /// A law: tokens read as at most one program, whichever levels fit.
 pub fn one_program()
-    ensures { (fits : ℕ → ℕ → Bool) (tokens : List Token) (p q : Program) → Reads fits tokens p → Reads fits tokens q → p ≡ q }
+    ensures { (fits : ℕ → ℕ → Bool) (tokens : List Token) (p q : Program) → Reads fits tokens p → Reads fits tokens q
+        → p ≡ q }
 {}

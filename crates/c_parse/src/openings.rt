@@ -4,9 +4,12 @@ ghost use Rattle.std.specs.Prelude.{◌≡◌, true, IfNone, IfSome, IsNone, Som
 ghost use Rattle.cc_model.specs.declared.tokens.Kind.{Kind};
 ghost use Rattle.cc_model.specs.declared.trees.Expr.{Expr};
 ghost use Rattle.c_parse.specs.Descent.{prefix_at};
-ghost use Rattle.c_parse.specs.DescentStatements.{assign_at, behind_at, number_at, simple_at, stmt_at, is_declared as declared_at, is_left_out as left_out_at, call_of as call_is};
+ghost use Rattle.c_parse.specs.DescentStatements.{assign_at, behind_at, number_at, simple_at, stmt_at};
+ghost use Rattle.c_parse.specs.DescentStatements.{is_declared as declared_at, is_left_out as left_out_at};
+ghost use Rattle.c_parse.specs.DescentStatements.{call_of as call_is};
 ghost use Rattle.c_parse.specs.DescentItems.{item_at, is_end as end_at};
-ghost use Rattle.c_parse.specs.ShownStatements.{BehindAt, ValueAt, simple_is, stmt_is, item_is, assign_maker, behind_maker, before_maker};
+ghost use Rattle.c_parse.specs.ShownStatements.{BehindAt, ValueAt, simple_is, stmt_is, item_is, assign_maker};
+ghost use Rattle.c_parse.specs.ShownStatements.{behind_maker, before_maker};
 
 use crate::operators::{is_sign, prefix_in};
 use cc_model::trees::Simple;

@@ -4,7 +4,8 @@ ghost use Rattle.std.specs.Prelude.{false, ◌≡◌, ◌<◌, Some, None, IfNon
 ghost use Rattle.cc_model.specs.declared.trees.Expr.{Expr};
 ghost use Rattle.cc_model.specs.declared.tokens.Punct.TheVariants.{OpenSquare};
 ghost use Rattle.cc_model.specs.ReadExpressions.{with_first as first_is, binary_sign};
-ghost use Rattle.c_parse.specs.Descent.{is_sign as sign_is, is_key as key_is, is_name as name_is, code, key_code, binary_at, prefix_at, field_at};
+ghost use Rattle.c_parse.specs.Descent.{is_sign as sign_is, is_key as key_is, is_name as name_is, code, key_code};
+ghost use Rattle.c_parse.specs.Descent.{binary_at, prefix_at, field_at};
 ghost use Rattle.c_parse.specs.Shown.{StepAt, StartsAt, TypeStartsAt, binary_maker, prefix_maker, field_maker};
 
 use crate::starts::{Start, Step, TypeStart};

@@ -14,7 +14,8 @@ use std::alloc::Global;
 /// The greatest level of a token.
 const DEEPEST: u32 = 200;
 
-/// The tokens that are parsed. Each function reads one rule of the grammar from a place on, and gives what it read with the place behind it.
+/// The tokens that are parsed. Each function reads one rule of the grammar from a place on, and gives what it read with
+/// the place behind it.
 #[derive(Drop)]
 pub struct Parser<'a> {
     pub alloc: Global,

@@ -31,7 +31,8 @@ impl Parser<'_> {
         here: Spot,
     ) -> Result<(Simple, Spot), ParseFault>
         requires { here.at < 1048576 }
-        ensures shown { Shows (λ n. of.assigned (kind_at self.now.tokens.now) shallow n level left (assign_maker sign)) (place here) result }
+        ensures shown { Shows (λ n. of.assigned (kind_at self.now.tokens.now) shallow n level left (assign_maker sign))
+            (place here) result }
         ensures onward { IfOk result (λ x. here.at ≤ x.1.at) }
     {
         let held = Boxed::new(self.alloc, left)?;
@@ -44,7 +45,8 @@ impl Parser<'_> {
     /// The step by one of `value` whose sign stands there.
     fn stepped(&self, value: Expr, sign: Punct, here: Spot) -> Result<(Simple, Spot), ParseFault>
         requires { here.at < 1048576 }
-        ensures shown { Shows (λ n. of.stepped (kind_at self.now.tokens.now) shallow value (behind_maker sign)) (place here) result }
+        ensures shown { Shows (λ n. of.stepped (kind_at self.now.tokens.now) shallow value (behind_maker sign))
+            (place here) result }
         ensures onward { IfOk result (λ x. here.at ≤ x.1.at) }
     {
         let held = Boxed::new(self.alloc, value)?;
@@ -54,7 +56,8 @@ impl Parser<'_> {
 
     /// The call that the unary expression from `start` on has to be.
     fn called(&self, start: Spot, value: Expr, here: Spot) -> Result<(Simple, Spot), ParseFault>
-        ensures shown { Shows (λ n. of.called (kind_at self.now.tokens.now) shallow (place start) value) (place here) result }
+        ensures shown { Shows (λ n. of.called (kind_at self.now.tokens.now) shallow (place start) value)
+            (place here) result }
         ensures onward { IfOk result (λ x. here.at ≤ x.1.at) }
     {
         match call_of(is_name(self.kind(start.at)), value) {
@@ -70,7 +73,8 @@ impl Parser<'_> {
         value: Expr,
         here: Spot,
     ) -> Result<(Simple, Spot), ParseFault>
-        ensures shown { Shows (λ n. of.behind_unary (kind_at self.now.tokens.now) shallow n (place start) value) (place here) result }
+        ensures shown { Shows (λ n. of.behind_unary (kind_at self.now.tokens.now) shallow n (place start) value)
+            (place here) result }
         ensures onward { IfOk result (λ x. here.at ≤ x.1.at) }
     {
         match behind_in(self.kind(start.at), self.kind(here.at)) {
@@ -93,7 +97,8 @@ impl Parser<'_> {
     /// The `assert` that stands there.
     fn assert_stmt(&self, spot: Spot) -> Result<(Simple, Spot), ParseFault>
         requires { spot.at < 1048576 }
-        ensures shown { Shows (λ n. of.simple_of (kind_at self.now.tokens.now) shallow n of.an_assert) (place spot) result }
+        ensures shown { Shows (λ n. of.simple_of (kind_at self.now.tokens.now) shallow n of.an_assert)
+            (place spot) result }
         ensures onward { IfOk result (λ x. spot.at ≤ x.1.at) }
     {
         let inner = self.take_pass(spot)?;
@@ -104,7 +109,8 @@ impl Parser<'_> {
     /// The `assume` that stands there.
     fn assume_stmt(&self, spot: Spot) -> Result<(Simple, Spot), ParseFault>
         requires { spot.at < 1048576 }
-        ensures shown { Shows (λ n. of.simple_of (kind_at self.now.tokens.now) shallow n of.an_assume) (place spot) result }
+        ensures shown { Shows (λ n. of.simple_of (kind_at self.now.tokens.now) shallow n of.an_assume)
+            (place spot) result }
         ensures onward { IfOk result (λ x. spot.at ≤ x.1.at) }
     {
         let inner = self.take_pass(spot)?;
@@ -115,7 +121,8 @@ impl Parser<'_> {
     /// The `abort` that stands there.
     fn abort_stmt(&self, spot: Spot) -> Result<(Simple, Spot), ParseFault>
         requires { spot.at < 1048576 }
-        ensures shown { Shows (λ n. of.simple_of (kind_at self.now.tokens.now) shallow n of.an_abort) (place spot) result }
+        ensures shown { Shows (λ n. of.simple_of (kind_at self.now.tokens.now) shallow n of.an_abort)
+            (place spot) result }
         ensures onward { IfOk result (λ x. spot.at ≤ x.1.at) }
     {
         let bracket = self.take_pass(spot)?;
@@ -127,7 +134,8 @@ impl Parser<'_> {
     /// The `CREST_int` that stands there.
     fn crest_int_stmt(&self, spot: Spot) -> Result<(Simple, Spot), ParseFault>
         requires { spot.at < 1048576 }
-        ensures shown { Shows (λ n. of.simple_of (kind_at self.now.tokens.now) shallow n of.a_crest_int) (place spot) result }
+        ensures shown { Shows (λ n. of.simple_of (kind_at self.now.tokens.now) shallow n of.a_crest_int)
+            (place spot) result }
         ensures onward { IfOk result (λ x. spot.at ≤ x.1.at) }
     {
         let bracket = self.take_pass(spot)?;
@@ -141,7 +149,8 @@ impl Parser<'_> {
     /// The simple statement that stands there and begins with `++` or `--`.
     fn step_stmt(&self, sign: Punct, spot: Spot) -> Result<(Simple, Spot), ParseFault>
         requires { spot.at < 1048576 }
-        ensures shown { Shows (λ n. of.simple_of (kind_at self.now.tokens.now) shallow n (of.a_step (before_maker sign))) (place spot) result }
+        ensures shown { Shows (λ n. of.simple_of (kind_at self.now.tokens.now) shallow n
+            (of.a_step (before_maker sign))) (place spot) result }
         ensures onward { IfOk result (λ x. spot.at ≤ x.1.at) }
     {
         let inner = self.take_pass(spot)?;

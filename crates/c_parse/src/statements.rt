@@ -18,7 +18,8 @@ impl Parser<'_> {
     /// The `;` that stands there.
     fn empty_stmt(&self, spot: Spot) -> Result<(Stmt, Spot), ParseFault>
         requires { spot.at < 1048576 }
-        ensures shown { Shows (λ n. of.statement_of (kind_at self.now.tokens.now) shallow n of.an_empty) (place spot) result }
+        ensures shown { Shows (λ n. of.statement_of (kind_at self.now.tokens.now) shallow n of.an_empty)
+            (place spot) result }
         ensures onward { IfOk result (λ x. spot.at < x.1.at) }
     {
         let after = self.take_pass(spot)?;
@@ -28,7 +29,8 @@ impl Parser<'_> {
     /// The `return` that stands there.
     fn return_stmt(&self, spot: Spot) -> Result<(Stmt, Spot), ParseFault>
         requires { spot.at < 1048576 }
-        ensures shown { Shows (λ n. of.statement_of (kind_at self.now.tokens.now) shallow n of.a_return) (place spot) result }
+        ensures shown { Shows (λ n. of.statement_of (kind_at self.now.tokens.now) shallow n of.a_return)
+            (place spot) result }
         ensures onward { IfOk result (λ x. spot.at < x.1.at) }
     {
         let inner = self.take_pass(spot)?;
@@ -41,7 +43,8 @@ impl Parser<'_> {
     /// The `break` that stands there.
     fn break_stmt(&self, spot: Spot) -> Result<(Stmt, Spot), ParseFault>
         requires { spot.at < 1048576 }
-        ensures shown { Shows (λ n. of.statement_of (kind_at self.now.tokens.now) shallow n of.a_break) (place spot) result }
+        ensures shown { Shows (λ n. of.statement_of (kind_at self.now.tokens.now) shallow n of.a_break)
+            (place spot) result }
         ensures onward { IfOk result (λ x. spot.at < x.1.at) }
     {
         let end = self.take_pass(spot)?;
@@ -52,7 +55,8 @@ impl Parser<'_> {
     /// The `continue` that stands there.
     fn continue_stmt(&self, spot: Spot) -> Result<(Stmt, Spot), ParseFault>
         requires { spot.at < 1048576 }
-        ensures shown { Shows (λ n. of.statement_of (kind_at self.now.tokens.now) shallow n of.a_continue) (place spot) result }
+        ensures shown { Shows (λ n. of.statement_of (kind_at self.now.tokens.now) shallow n of.a_continue)
+            (place spot) result }
         ensures onward { IfOk result (λ x. spot.at < x.1.at) }
     {
         let end = self.take_pass(spot)?;
@@ -62,7 +66,8 @@ impl Parser<'_> {
 
     /// The simple statement that stands there, with its `;`.
     fn plain_stmt(&self, spot: Spot) -> Result<(Stmt, Spot), ParseFault>
-        ensures shown { Shows (λ n. of.statement_of (kind_at self.now.tokens.now) shallow n of.a_plain) (place spot) result }
+        ensures shown { Shows (λ n. of.statement_of (kind_at self.now.tokens.now) shallow n of.a_plain)
+            (place spot) result }
         ensures onward { IfOk result (λ x. spot.at < x.1.at) }
     {
         let (value, end) = self.simple_stmt(spot)?;
@@ -107,7 +112,8 @@ impl Parser<'_> {
     #[cycle(blocks)]
     fn if_stmt(&self, spot: Spot) -> Result<(Stmt, Spot), ParseFault>
         requires { spot.at < 1048576 }
-        ensures shown { Shows (λ n. of.statement_of (kind_at self.now.tokens.now) shallow n of.an_if) (place spot) result }
+        ensures shown { Shows (λ n. of.statement_of (kind_at self.now.tokens.now) shallow n of.an_if)
+            (place spot) result }
         ensures onward { IfOk result (λ x. spot.at < x.1.at) }
     {
         let inner = self.take_open(spot)?;
@@ -127,7 +133,8 @@ impl Parser<'_> {
         first: Boxed<Stmt>,
         here: Spot,
     ) -> Result<(Stmt, Spot), ParseFault>
-        ensures shown { Shows (λ n. of.else_part (kind_at self.now.tokens.now) shallow n (place start) condition first) (place here) result }
+        ensures shown { Shows (λ n. of.else_part (kind_at self.now.tokens.now) shallow n (place start) condition first)
+            (place here) result }
         ensures onward { IfOk result (λ x. here.at ≤ x.1.at) }
     {
         let level = start.level;
@@ -146,7 +153,8 @@ impl Parser<'_> {
     #[cycle(blocks)]
     fn while_stmt(&self, spot: Spot) -> Result<(Stmt, Spot), ParseFault>
         requires { spot.at < 1048576 }
-        ensures shown { Shows (λ n. of.statement_of (kind_at self.now.tokens.now) shallow n of.a_while) (place spot) result }
+        ensures shown { Shows (λ n. of.statement_of (kind_at self.now.tokens.now) shallow n of.a_while)
+            (place spot) result }
         ensures onward { IfOk result (λ x. spot.at < x.1.at) }
     {
         let inner = self.take_open(spot)?;
@@ -163,7 +171,8 @@ impl Parser<'_> {
     #[cycle(blocks)]
     fn do_stmt(&self, spot: Spot) -> Result<(Stmt, Spot), ParseFault>
         requires { spot.at < 1048576 }
-        ensures shown { Shows (λ n. of.statement_of (kind_at self.now.tokens.now) shallow n of.a_do) (place spot) result }
+        ensures shown { Shows (λ n. of.statement_of (kind_at self.now.tokens.now) shallow n of.a_do)
+            (place spot) result }
         ensures onward { IfOk result (λ x. spot.at < x.1.at) }
     {
         let inner = self.take_open(spot)?;
@@ -188,7 +197,8 @@ impl Parser<'_> {
     #[cycle(blocks)]
     fn for_stmt(&self, spot: Spot) -> Result<(Stmt, Spot), ParseFault>
         requires { spot.at < 1048576 }
-        ensures shown { Shows (λ n. of.statement_of (kind_at self.now.tokens.now) shallow n of.a_for) (place spot) result }
+        ensures shown { Shows (λ n. of.statement_of (kind_at self.now.tokens.now) shallow n of.a_for)
+            (place spot) result }
         ensures onward { IfOk result (λ x. spot.at < x.1.at) }
     {
         let inner = self.take_open(spot)?;

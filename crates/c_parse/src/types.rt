@@ -98,7 +98,8 @@ impl Parser<'_> {
         cast: Option<TypeName>,
         spot: Spot,
     ) -> Result<(Expr, Spot), ParseFault>
-        ensures shown { Shows (λ n. of.allocated (kind_at self.now.tokens.now) shallow n first cast) (place spot) result }
+        ensures shown { Shows (λ n. of.allocated (kind_at self.now.tokens.now) shallow n first cast)
+            (place spot) result }
         ensures onward { IfOk result (λ x. (spot.at ≤ x.1.at) × (x.1.level ≡ spot.level)) }
     {
         let (named, after) = self.allocation(spot)?;
@@ -130,7 +131,8 @@ impl Parser<'_> {
 
     /// Whether a `)` stands behind the stars from there on.
     fn closes(&self, from: u32) -> bool
-        ensures shown { (s : by.Spot) → Ends (λ n. of.closes (kind_at self.now.tokens.now) shallow n from) s (got result s) }
+        ensures shown { (s : by.Spot) → Ends (λ n. of.closes (kind_at self.now.tokens.now) shallow n from) s
+            (got result s) }
     {
         let mut at = from;
         while is_sign(Punct::Star, self.kind(at)) {
@@ -142,7 +144,8 @@ impl Parser<'_> {
     /// Whether the `(` there begins a cast.
     pub fn casts(&self, spot: Spot) -> bool
         requires { spot.at < 1048576 }
-        ensures shown { Ends (λ n. of.casts (kind_at self.now.tokens.now) shallow n) (place spot) (got result (place spot)) }
+        ensures shown { Ends (λ n. of.casts (kind_at self.now.tokens.now) shallow n) (place spot)
+            (got result (place spot)) }
     {
         match type_start_in(self.kind(spot.at + 1)) {
             TypeStart::Int => true,

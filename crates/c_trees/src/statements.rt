@@ -1,10 +1,13 @@
 //! The walk over statements, declarations and items.
 
 ghost use Rattle.std.specs.Prelude.{[], ◌∷◌, ◌++◌, flat_map, OnOk};
-ghost use Rattle.cc_model.specs.CheckedProgram.{expression_if, simple_expressions, simple_expressions_if, decl_expressions, head_expressions, item_expressions};
-ghost use Rattle.cc_model.specs.Sites.{at, sites_of, simple_sites, simple_sites_if, value_sites_if, truth_sites_if, decl_sites, head_sites, item_sites};
+ghost use Rattle.cc_model.specs.CheckedProgram.{expression_if, simple_expressions, simple_expressions_if};
+ghost use Rattle.cc_model.specs.CheckedProgram.{decl_expressions, head_expressions, item_expressions};
+ghost use Rattle.cc_model.specs.Sites.{at, sites_of, simple_sites, simple_sites_if, value_sites_if, truth_sites_if};
+ghost use Rattle.cc_model.specs.Sites.{decl_sites, head_sites, item_sites};
 ghost use Rattle.c_trees.specs.Forms.{own_sites, valued, decided};
-ghost use Rattle.c_trees.specs.Walks.{Covers, expressions_in, expressions_of, marks_in, marks_of, declared_expressions, declared_marks};
+ghost use Rattle.c_trees.specs.Walks.{Covers, expressions_in, expressions_of, marks_in, marks_of, declared_expressions};
+ghost use Rattle.c_trees.specs.Walks.{declared_marks};
 
 use crate::form::Own;
 use crate::walk::Walk;
@@ -47,7 +50,8 @@ impl Walk {
 
     /// A place, the sites of an operator, and a value.
     fn update(&mut self, own: Own, t: u32, place: &Expr, e: &Expr) -> Result<(), NoMemory>
-        ensures { OnOk result (Covers self.old self.new (place.now ∷ e.now ∷ []) (valued place.now ++ (own_sites own t ++ valued e.now))) }
+        ensures { OnOk result (Covers self.old self.new (place.now ∷ e.now ∷ [])
+            (valued place.now ++ (own_sites own t ++ valued e.now))) }
     {
         self.used(place)?;
         self.own(own, t)?;
@@ -93,7 +97,8 @@ impl Walk {
     }
 
     fn simple_if(&mut self, s: &Option<Simple>) -> Result<(), NoMemory>
-        ensures { OnOk result (Covers self.old self.new (simple_expressions_if s.now) (simple_sites_if sites_of s.now)) }
+        ensures { OnOk result (Covers self.old self.new (simple_expressions_if s.now)
+            (simple_sites_if sites_of s.now)) }
     {
         match s {
             Some(s) => self.simple(s),
@@ -111,7 +116,8 @@ impl Walk {
     }
 
     fn declarators(&mut self, parts: &[Declared]) -> Result<(), NoMemory>
-        ensures { OnOk result (Covers self.old self.new (flat_map declared_expressions parts.now) (flat_map declared_marks parts.now)) }
+        ensures { OnOk result (Covers self.old self.new (flat_map declared_expressions parts.now)
+            (flat_map declared_marks parts.now)) }
     {
         for part in parts {
             self.declared(part)?;
@@ -136,7 +142,8 @@ impl Walk {
 
     /// What a `for` does around its body.
     fn turn(&mut self, c: &Option<Expr>, next: &Option<Simple>) -> Result<(), NoMemory>
-        ensures { OnOk result (Covers self.old self.new (expression_if c.now ++ simple_expressions_if next.now) (truth_sites_if sites_of c.now ++ simple_sites_if sites_of next.now)) }
+        ensures { OnOk result (Covers self.old self.new (expression_if c.now ++ simple_expressions_if next.now)
+            (truth_sites_if sites_of c.now ++ simple_sites_if sites_of next.now)) }
     {
         self.tested_if(c)?;
         self.simple_if(next)
@@ -191,7 +198,8 @@ impl Walk {
     /// The parts of a block or a body.
     #[cycle(statements)]
     fn parts(&mut self, parts: &[Part]) -> Result<(), NoMemory>
-        ensures { OnOk result (Covers self.old self.new (flat_map expressions_of parts.now) (flat_map marks_of parts.now)) }
+        ensures { OnOk result (Covers self.old self.new (flat_map expressions_of parts.now)
+            (flat_map marks_of parts.now)) }
     {
         for part in parts {
             self.part(part)?;
@@ -210,7 +218,8 @@ impl Walk {
 
     /// The items of a program.
     pub fn items(&mut self, items: &[Item]) -> Result<(), NoMemory>
-        ensures { OnOk result (Covers self.old self.new (flat_map item_expressions items.now) (flat_map item_sites items.now)) }
+        ensures { OnOk result (Covers self.old self.new (flat_map item_expressions items.now)
+            (flat_map item_sites items.now)) }
     {
         for item in items {
             self.item(item)?;

@@ -21,7 +21,8 @@ pub struct Mark {
     pub kind: SiteKind,
 }
 
-/// What a walk has met so far: the tokens of expressions in order of their numbers, and the sites as they stand in the trees.
+/// What a walk has met so far: the tokens of expressions in order of their numbers, and the sites as they stand in the
+/// trees.
 #[derive(Drop)]
 pub struct Walk {
     pub tokens: Items<u32>,

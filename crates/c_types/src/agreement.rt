@@ -59,12 +59,14 @@ pub fn is_whole(function: &Function) -> bool
 
 /// Whether two declarations say the same types.
 fn same_types(one: &Function, other: &Function) -> bool
-    ensures { result ≡ (faults.same_if (one.now).result (other.now).result && faults.same_all (one.now).params (other.now).params) }
+    ensures { result ≡ (faults.same_if (one.now).result (other.now).result && faults.same_all (one.now).params
+        (other.now).params) }
 {
     same_if(&one.result, &other.result) && same_all(one.params.as_slice(), other.params.as_slice())
 }
 
-/// Notes a declaration that doesn't agree with the first one of the function, where all their types are known; `whole` says that those of the first one are.
+/// Notes a declaration that doesn't agree with the first one of the function, where all their types are known; `whole`
+/// says that those of the first one are.
 fn note_agreed(
     t: u32,
     function: &Function,
@@ -89,7 +91,8 @@ fn is_known(whole: &[bool], number: u32) -> bool
     }
 }
 
-/// Notes a declaration that doesn't agree with the first one of the function of that number. `whole` tells of each function whether all types of its first declaration are known.
+/// Notes a declaration that doesn't agree with the first one of the function of that number. `whole` tells of each
+/// function whether all types of its first declaration are known.
 fn note_first(
     t: u32,
     function: &Function,
@@ -137,7 +140,9 @@ impl View<'_> {
         again: bool,
         notes: &mut Items<Note>,
     ) -> Result<(), NoMemory>
-        ensures { OnOk result (notes.new ≡ notes.old ++ faults.function_notes (text_at self.now.source.now self.now.tokens.now) self.now.file.now self.now.before.now t gives function.now again) }
+        ensures { OnOk result (notes.new ≡ notes.old
+            ++ faults.function_notes (text_at self.now.source.now self.now.tokens.now) self.now.file.now
+            self.now.before.now t gives function.now again) }
     {
         let name = function.name.as_slice();
         let other = self.before.is_alias(name) || self.before.has_global(name);

@@ -22,7 +22,8 @@ pub fn pass(
     before: &mut Preceding,
     item: &Item,
 ) -> Result<(), NoMemory>
-    ensures { OnOk result (before.new ≡ scopes.after_item (text_at source.now tokens.now) tags.now before.old item.now) }
+    ensures { OnOk result (before.new ≡ scopes.after_item
+        (text_at source.now tokens.now) tags.now before.old item.now) }
 {
     narrow(tags.as_slice().len())?;
     let names = TypeNames {
@@ -44,7 +45,8 @@ pub fn pass_global(
     base: Base,
     part: &GlobalPart,
 ) -> Result<(), NoMemory>
-    ensures { OnOk result (before.new ≡ scopes.after_global (text_at source.now tokens.now) tags.now before.old base part.now) }
+    ensures { OnOk result (before.new ≡ scopes.after_global
+        (text_at source.now tokens.now) tags.now before.old base part.now) }
 {
     narrow(tags.as_slice().len())?;
     let names = TypeNames {
@@ -64,7 +66,9 @@ impl TypeNames<'_> {
         name: u32,
         number: Option<u32>,
     ) -> Result<(), NoMemory>
-        ensures { OnOk result (before.new ≡ scopes.with_alias (text_at self.now.source.now self.now.tokens.now) self.now.tags.now before.old (text_at self.now.source.now self.now.tokens.now name) number) }
+        ensures { OnOk result (before.new ≡ scopes.with_alias
+            (text_at self.now.source.now self.now.tokens.now) self.now.tags.now before.old
+            (text_at self.now.source.now self.now.tokens.now name) number) }
     {
         let name = self.name(name)?;
         before.add_alias(Alias { name, number })
@@ -72,7 +76,9 @@ impl TypeNames<'_> {
 
     /// What stands behind the definition of a struct.
     fn pass_struct(&self, before: &mut Preceding, definition: &StructDef) -> Result<(), NoMemory>
-        ensures { OnOk result (before.new ≡ scopes.after_item (text_at self.now.source.now self.now.tokens.now) self.now.tags.now before.old (some_item.Struct definition.now)) }
+        ensures { OnOk result (before.new ≡ scopes.after_item
+            (text_at self.now.source.now self.now.tokens.now) self.now.tags.now before.old
+            (some_item.Struct definition.now)) }
     {
         let number = before.structs();
         before.add_struct()?;
@@ -89,7 +95,8 @@ impl TypeNames<'_> {
         base: Base,
         part: &GlobalPart,
     ) -> Result<Variable, NoMemory>
-        ensures { IfOk result (λ v. v ≡ scopes.global_of (text_at self.now.source.now self.now.tokens.now) self.now.tags.now before.now base part.now) }
+        ensures { IfOk result (λ v. v ≡ scopes.global_of
+            (text_at self.now.source.now self.now.tokens.now) self.now.tags.now before.now base part.now) }
     {
         let name = self.name(part.declarator.name)?;
         let ty = self.declared_type(before, base, &part.declarator)?;
@@ -108,7 +115,8 @@ impl TypeNames<'_> {
         base: Base,
         part: &GlobalPart,
     ) -> Result<(), NoMemory>
-        ensures { OnOk result (before.new ≡ scopes.after_global (text_at self.now.source.now self.now.tokens.now) self.now.tags.now before.old base part.now) }
+        ensures { OnOk result (before.new ≡ scopes.after_global
+            (text_at self.now.source.now self.now.tokens.now) self.now.tags.now before.old base part.now) }
     {
         let global = self.global(before, base, part)?;
         before.add_global(global)
@@ -121,7 +129,8 @@ impl TypeNames<'_> {
         base: Base,
         parts: &[GlobalPart],
     ) -> Result<(), NoMemory>
-        ensures { OnOk result (before.new ≡ scopes.after_globals (text_at self.now.source.now self.now.tokens.now) self.now.tags.now before.old base parts.now) }
+        ensures { OnOk result (before.new ≡ scopes.after_globals
+            (text_at self.now.source.now self.now.tokens.now) self.now.tags.now before.old base parts.now) }
     {
         for part in parts {
             self.pass_global(before, base, part)?;
@@ -131,14 +140,19 @@ impl TypeNames<'_> {
 
     /// Adds the name of a declared function.
     fn pass_name(&self, before: &mut Preceding, name: u32) -> Result<(), NoMemory>
-        ensures { OnOk result (before.new ≡ record before.old { functions = before.old.functions ++ text_at self.now.source.now self.now.tokens.now name ∷ [] }) }
+        ensures { OnOk result (before.new ≡ record before.old {
+          functions = before.old.functions
+              ++ text_at self.now.source.now self.now.tokens.now name ∷ [];
+        }) }
     {
         before.add_function(token_text(self.source, self.tokens, name))
     }
 
     /// What stands behind a function with a body.
     fn pass_function(&self, before: &mut Preceding, function: &Func) -> Result<(), NoMemory>
-        ensures { OnOk result (before.new ≡ scopes.after_item (text_at self.now.source.now self.now.tokens.now) self.now.tags.now before.old (some_item.Func function.now)) }
+        ensures { OnOk result (before.new ≡ scopes.after_item
+            (text_at self.now.source.now self.now.tokens.now) self.now.tags.now before.old
+            (some_item.Func function.now)) }
     {
         self.pass_name(before, function.name)?;
         before.add_body(token_text(self.source, self.tokens, function.name))
@@ -146,7 +160,8 @@ impl TypeNames<'_> {
 
     /// What stands behind an item.
     pub fn pass(&self, before: &mut Preceding, item: &Item) -> Result<(), NoMemory>
-        ensures { OnOk result (before.new ≡ scopes.after_item (text_at self.now.source.now self.now.tokens.now) self.now.tags.now before.old item.now) }
+        ensures { OnOk result (before.new ≡ scopes.after_item
+            (text_at self.now.source.now self.now.tokens.now) self.now.tags.now before.old item.now) }
     {
         match item {
             Item::Alias(tag, name) => {

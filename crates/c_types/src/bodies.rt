@@ -18,7 +18,8 @@ use cc_model::typing::{CType, Note, Variable};
 use cc_model::{Expr, Stmt};
 use sqlite_items::Items;
 
-/// The body of a function: what its file declares and what stands before it, and the type that the function gives, where that is known.
+/// The body of a function: what its file declares and what stands before it, and the type that the function gives,
+/// where that is known.
 #[derive(Clone, Copy)]
 struct Body<'a> {
     view: View<'a>,
@@ -33,8 +34,12 @@ impl View<'_> {
         gives: &Option<CType>,
         notes: &mut Items<Note>,
     ) -> Result<(), NoMemory>
-        ensures { OnOk result (notes.new ≡ notes.old ++ (faults.follow (faults.params_of (text_at self.now.source.now self.now.tokens.now) self.now.file.now self.now.before.now (function.now).params faults.at_body)
-            (faults.body_of (faults.part_of (text_at self.now.source.now self.now.tokens.now) self.now.file.now self.now.before.now gives.now) (function.now).body)).notes) }
+        ensures { OnOk result (notes.new ≡ notes.old
+            ++ (faults.follow (faults.params_of
+            (text_at self.now.source.now self.now.tokens.now) self.now.file.now self.now.before.now
+            (function.now).params faults.at_body)
+            (faults.body_of (faults.part_of (text_at self.now.source.now self.now.tokens.now) self.now.file.now
+            self.now.before.now gives.now) (function.now).body)).notes) }
     {
         let body = Body { view: *self, gives };
         let mut inside = Inside::at_body(self.alloc)?;
@@ -71,7 +76,11 @@ impl Body<'_> {
         inside: &Inside,
         notes: &mut Items<Note>,
     ) -> Result<(), NoMemory>
-        ensures { OnOk result (notes.new ≡ notes.old ++ faults.tested t (faults.judged_at (typing.judged (text_at self.now.view.source.now self.now.view.tokens.now)) (text_at self.now.view.source.now self.now.view.tokens.now) self.now.view.file.now self.now.view.before.now self.now.gives.now (place inside.now) value.now)) }
+        ensures { OnOk result (notes.new ≡ notes.old
+            ++ faults.tested t (faults.judged_at
+            (typing.judged (text_at self.now.view.source.now self.now.view.tokens.now))
+            (text_at self.now.view.source.now self.now.view.tokens.now) self.now.view.file.now self.now.view.before.now
+            self.now.gives.now (place inside.now) value.now)) }
     {
         let view = self.with_scopes(inside.scopes.as_slice());
         view.test(t, value, notes)
@@ -85,7 +94,10 @@ impl Body<'_> {
         inside: &Inside,
         notes: &mut Items<Note>,
     ) -> Result<(), NoMemory>
-        ensures { OnOk result (notes.new ≡ notes.old ++ faults.tested_if (typing.judged (text_at self.now.view.source.now self.now.view.tokens.now)) (text_at self.now.view.source.now self.now.view.tokens.now) self.now.view.file.now self.now.view.before.now self.now.gives.now t value.now (place inside.now)) }
+        ensures { OnOk result (notes.new ≡ notes.old
+            ++ faults.tested_if (typing.judged (text_at self.now.view.source.now self.now.view.tokens.now))
+            (text_at self.now.view.source.now self.now.view.tokens.now) self.now.view.file.now self.now.view.before.now
+            self.now.gives.now t value.now (place inside.now)) }
     {
         match value {
             Some(value) => self.test(t, value, inside, notes),
@@ -100,7 +112,10 @@ impl Body<'_> {
         inside: &Inside,
         notes: &mut Items<Note>,
     ) -> Result<(), NoMemory>
-        ensures { OnOk result (notes.new ≡ notes.old ++ faults.simple_notes (typing.judged (text_at self.now.view.source.now self.now.view.tokens.now)) (text_at self.now.view.source.now self.now.view.tokens.now) self.now.view.file.now self.now.view.before.now self.now.gives.now simple.now (place inside.now)) }
+        ensures { OnOk result (notes.new ≡ notes.old
+            ++ faults.simple_notes (typing.judged (text_at self.now.view.source.now self.now.view.tokens.now))
+            (text_at self.now.view.source.now self.now.view.tokens.now) self.now.view.file.now self.now.view.before.now
+            self.now.gives.now simple.now (place inside.now)) }
     {
         let view = self.with_scopes(inside.scopes.as_slice());
         view.simple(simple, notes)
@@ -113,7 +128,10 @@ impl Body<'_> {
         inside: &Inside,
         notes: &mut Items<Note>,
     ) -> Result<(), NoMemory>
-        ensures { OnOk result (notes.new ≡ notes.old ++ faults.simple_notes_if (typing.judged (text_at self.now.view.source.now self.now.view.tokens.now)) (text_at self.now.view.source.now self.now.view.tokens.now) self.now.view.file.now self.now.view.before.now self.now.gives.now simple.now (place inside.now)) }
+        ensures { OnOk result (notes.new ≡ notes.old
+            ++ faults.simple_notes_if (typing.judged (text_at self.now.view.source.now self.now.view.tokens.now))
+            (text_at self.now.view.source.now self.now.view.tokens.now) self.now.view.file.now self.now.view.before.now
+            self.now.gives.now simple.now (place inside.now)) }
     {
         match simple {
             Some(simple) => self.simple(simple, inside, notes),
@@ -129,7 +147,10 @@ impl Body<'_> {
         inside: &Inside,
         notes: &mut Items<Note>,
     ) -> Result<(), NoMemory>
-        ensures { OnOk result (notes.new ≡ notes.old ++ faults.return_notes (typing.judged (text_at self.now.view.source.now self.now.view.tokens.now)) (text_at self.now.view.source.now self.now.view.tokens.now) self.now.view.file.now self.now.view.before.now self.now.gives.now t value.now (place inside.now)) }
+        ensures { OnOk result (notes.new ≡ notes.old
+            ++ faults.return_notes (typing.judged (text_at self.now.view.source.now self.now.view.tokens.now))
+            (text_at self.now.view.source.now self.now.view.tokens.now) self.now.view.file.now self.now.view.before.now
+            self.now.gives.now t value.now (place inside.now)) }
     {
         let view = self.with_scopes(inside.scopes.as_slice());
         view.returns(t, self.gives, value, notes)
@@ -143,7 +164,10 @@ impl Body<'_> {
         inside: &Inside,
         notes: &mut Items<Note>,
     ) -> Result<(), NoMemory>
-        ensures { OnOk result (notes.new ≡ notes.old ++ faults.start_notes (typing.judged (text_at self.now.view.source.now self.now.view.tokens.now)) (text_at self.now.view.source.now self.now.view.tokens.now) self.now.view.file.now self.now.view.before.now self.now.gives.now start.now ty.now (place inside.now)) }
+        ensures { OnOk result (notes.new ≡ notes.old
+            ++ faults.start_notes (typing.judged (text_at self.now.view.source.now self.now.view.tokens.now))
+            (text_at self.now.view.source.now self.now.view.tokens.now) self.now.view.file.now self.now.view.before.now
+            self.now.gives.now start.now ty.now (place inside.now)) }
     {
         let view = self.with_scopes(inside.scopes.as_slice());
         view.start(start, ty, notes)
@@ -158,7 +182,10 @@ impl Body<'_> {
         inside: &Inside,
         notes: &mut Items<Note>,
     ) -> Result<(), NoMemory>
-        ensures { OnOk result (notes.new ≡ notes.old ++ faults.local_notes (typing.judged (text_at self.now.view.source.now self.now.view.tokens.now)) (text_at self.now.view.source.now self.now.view.tokens.now) self.now.view.file.now self.now.view.before.now self.now.gives.now base declarator.now ty.now (place inside.now)) }
+        ensures { OnOk result (notes.new ≡ notes.old
+            ++ faults.local_notes (typing.judged (text_at self.now.view.source.now self.now.view.tokens.now))
+            (text_at self.now.view.source.now self.now.view.tokens.now) self.now.view.file.now self.now.view.before.now
+            self.now.gives.now base declarator.now ty.now (place inside.now)) }
     {
         let view = self.with_scopes(inside.scopes.as_slice());
         view.local(inside.next, base, declarator, ty, notes)
@@ -172,7 +199,9 @@ impl Body<'_> {
         inside: &Inside,
         notes: &mut Items<Note>,
     ) -> Result<(), NoMemory>
-        ensures { OnOk result (notes.new ≡ notes.old ++ faults.param_notes (text_at self.now.view.source.now self.now.view.tokens.now) self.now.view.file.now self.now.view.before.now param ty.now (place inside.now)) }
+        ensures { OnOk result (notes.new ≡ notes.old
+            ++ faults.param_notes (text_at self.now.view.source.now self.now.view.tokens.now) self.now.view.file.now
+            self.now.view.before.now param ty.now (place inside.now)) }
     {
         let view = self.with_scopes(inside.scopes.as_slice());
         view.param(inside.next, param, ty, notes)
@@ -185,7 +214,9 @@ impl Body<'_> {
         inside: &mut Inside,
         notes: &mut Items<Note>,
     ) -> Result<(), NoMemory>
-        ensures { OnOk result (Leads (places.param_of (text_at self.now.view.source.now self.now.view.tokens.now) self.now.view.file.now self.now.view.before.now param) inside.old inside.new notes.old notes.new) }
+        ensures { OnOk result (Leads (places.param_of
+            (text_at self.now.view.source.now self.now.view.tokens.now) self.now.view.file.now self.now.view.before.now
+            param) inside.old inside.new notes.old notes.new) }
     {
         let ty = self.view.param_type(param.ty);
         self.param_typed(param, &ty, inside, notes)?;
@@ -199,7 +230,9 @@ impl Body<'_> {
         inside: &mut Inside,
         notes: &mut Items<Note>,
     ) -> Result<(), NoMemory>
-        ensures { OnOk result (Leads (faults.params_of (text_at self.now.view.source.now self.now.view.tokens.now) self.now.view.file.now self.now.view.before.now params.now) inside.old inside.new notes.old notes.new) }
+        ensures { OnOk result (Leads (faults.params_of
+            (text_at self.now.view.source.now self.now.view.tokens.now) self.now.view.file.now self.now.view.before.now
+            params.now) inside.old inside.new notes.old notes.new) }
     {
         for param in params {
             self.param(*param, inside, notes)?;
@@ -215,7 +248,10 @@ impl Body<'_> {
         inside: &mut Inside,
         notes: &mut Items<Note>,
     ) -> Result<(), NoMemory>
-        ensures { OnOk result (Leads (faults.declared_of (typing.judged (text_at self.now.view.source.now self.now.view.tokens.now)) (text_at self.now.view.source.now self.now.view.tokens.now) self.now.view.file.now self.now.view.before.now self.now.gives.now base part.now) inside.old inside.new notes.old notes.new) }
+        ensures { OnOk result (Leads (faults.declared_of
+            (typing.judged (text_at self.now.view.source.now self.now.view.tokens.now))
+            (text_at self.now.view.source.now self.now.view.tokens.now) self.now.view.file.now self.now.view.before.now
+            self.now.gives.now base part.now) inside.old inside.new notes.old notes.new) }
     {
         let ty = self.view.declared_type(base, &part.declarator)?;
         self.local(base, &part.declarator, &ty, inside, notes)?;
@@ -232,7 +268,10 @@ impl Body<'_> {
         inside: &mut Inside,
         notes: &mut Items<Note>,
     ) -> Result<(), NoMemory>
-        ensures { OnOk result (Leads (faults.declareds_of (typing.judged (text_at self.now.view.source.now self.now.view.tokens.now)) (text_at self.now.view.source.now self.now.view.tokens.now) self.now.view.file.now self.now.view.before.now self.now.gives.now base parts.now) inside.old inside.new notes.old notes.new) }
+        ensures { OnOk result (Leads (faults.declareds_of
+            (typing.judged (text_at self.now.view.source.now self.now.view.tokens.now))
+            (text_at self.now.view.source.now self.now.view.tokens.now) self.now.view.file.now self.now.view.before.now
+            self.now.gives.now base parts.now) inside.old inside.new notes.old notes.new) }
     {
         for part in parts {
             self.declared(base, part, inside, notes)?;
@@ -247,7 +286,10 @@ impl Body<'_> {
         inside: &mut Inside,
         notes: &mut Items<Note>,
     ) -> Result<(), NoMemory>
-        ensures { OnOk result (Leads (faults.head_of (typing.judged (text_at self.now.view.source.now self.now.view.tokens.now)) (text_at self.now.view.source.now self.now.view.tokens.now) self.now.view.file.now self.now.view.before.now self.now.gives.now head.now) inside.old inside.new notes.old notes.new) }
+        ensures { OnOk result (Leads (faults.head_of
+            (typing.judged (text_at self.now.view.source.now self.now.view.tokens.now))
+            (text_at self.now.view.source.now self.now.view.tokens.now) self.now.view.file.now self.now.view.before.now
+            self.now.gives.now head.now) inside.old inside.new notes.old notes.new) }
     {
         match head {
             Head::Decl(decl) => self.declareds(decl.base, decl.parts.as_slice(), inside, notes),
@@ -263,7 +305,9 @@ impl Body<'_> {
         inside: &mut Inside,
         notes: &mut Items<Note>,
     ) -> Result<(), NoMemory>
-        ensures { OnOk result (Leads (places.stmt_of (text_at self.now.view.source.now self.now.view.tokens.now) self.now.view.file.now self.now.view.before.now self.now.gives.now s.now) inside.old inside.new notes.old notes.new) }
+        ensures { OnOk result (Leads (places.stmt_of
+            (text_at self.now.view.source.now self.now.view.tokens.now) self.now.view.file.now self.now.view.before.now
+            self.now.gives.now s.now) inside.old inside.new notes.old notes.new) }
     {
         match s {
             Stmt::Empty => Ok(()),
@@ -292,7 +336,12 @@ impl Body<'_> {
         inside: &mut Inside,
         notes: &mut Items<Note>,
     ) -> Result<(), NoMemory>
-        ensures { OnOk result (Leads (faults.stmt_level (typing.judged (text_at self.now.view.source.now self.now.view.tokens.now)) (text_at self.now.view.source.now self.now.view.tokens.now) self.now.view.file.now self.now.view.before.now self.now.gives.now (level.Block (map (faults.part_of (text_at self.now.view.source.now self.now.view.tokens.now) self.now.view.file.now self.now.view.before.now self.now.gives.now) parts.now))) inside.old inside.new notes.old notes.new) }
+        ensures { OnOk result (Leads (faults.stmt_level
+            (typing.judged (text_at self.now.view.source.now self.now.view.tokens.now))
+            (text_at self.now.view.source.now self.now.view.tokens.now) self.now.view.file.now self.now.view.before.now
+            self.now.gives.now (level.Block (map
+            (faults.part_of (text_at self.now.view.source.now self.now.view.tokens.now) self.now.view.file.now
+            self.now.view.before.now self.now.gives.now) parts.now))) inside.old inside.new notes.old notes.new) }
     {
         inside.open(self.view.alloc)?;
         self.parts(parts, inside, notes)?;
@@ -310,7 +359,12 @@ impl Body<'_> {
         inside: &mut Inside,
         notes: &mut Items<Note>,
     ) -> Result<(), NoMemory>
-        ensures { OnOk result (Leads (faults.stmt_level (typing.judged (text_at self.now.view.source.now self.now.view.tokens.now)) (text_at self.now.view.source.now self.now.view.tokens.now) self.now.view.file.now self.now.view.before.now self.now.gives.now (level.If t test.now (places.stmt_of (text_at self.now.view.source.now self.now.view.tokens.now) self.now.view.file.now self.now.view.before.now self.now.gives.now one.now))) inside.old inside.new notes.old notes.new) }
+        ensures { OnOk result (Leads (faults.stmt_level
+            (typing.judged (text_at self.now.view.source.now self.now.view.tokens.now))
+            (text_at self.now.view.source.now self.now.view.tokens.now) self.now.view.file.now self.now.view.before.now
+            self.now.gives.now (level.If t test.now
+            (places.stmt_of (text_at self.now.view.source.now self.now.view.tokens.now) self.now.view.file.now
+            self.now.view.before.now self.now.gives.now one.now))) inside.old inside.new notes.old notes.new) }
     {
         self.test(t, test, inside, notes)?;
         self.statement(one, inside, notes)
@@ -327,7 +381,14 @@ impl Body<'_> {
         inside: &mut Inside,
         notes: &mut Items<Note>,
     ) -> Result<(), NoMemory>
-        ensures { OnOk result (Leads (faults.stmt_level (typing.judged (text_at self.now.view.source.now self.now.view.tokens.now)) (text_at self.now.view.source.now self.now.view.tokens.now) self.now.view.file.now self.now.view.before.now self.now.gives.now (level.IfElse t test.now (places.stmt_of (text_at self.now.view.source.now self.now.view.tokens.now) self.now.view.file.now self.now.view.before.now self.now.gives.now one.now) (places.stmt_of (text_at self.now.view.source.now self.now.view.tokens.now) self.now.view.file.now self.now.view.before.now self.now.gives.now other.now))) inside.old inside.new notes.old notes.new) }
+        ensures { OnOk result (Leads (faults.stmt_level
+            (typing.judged (text_at self.now.view.source.now self.now.view.tokens.now))
+            (text_at self.now.view.source.now self.now.view.tokens.now) self.now.view.file.now self.now.view.before.now
+            self.now.gives.now (level.IfElse t test.now
+            (places.stmt_of (text_at self.now.view.source.now self.now.view.tokens.now) self.now.view.file.now
+            self.now.view.before.now self.now.gives.now one.now)
+            (places.stmt_of (text_at self.now.view.source.now self.now.view.tokens.now) self.now.view.file.now
+            self.now.view.before.now self.now.gives.now other.now))) inside.old inside.new notes.old notes.new) }
     {
         self.test(t, test, inside, notes)?;
         self.statement(one, inside, notes)?;
@@ -344,7 +405,12 @@ impl Body<'_> {
         inside: &mut Inside,
         notes: &mut Items<Note>,
     ) -> Result<(), NoMemory>
-        ensures { OnOk result (Leads (faults.stmt_level (typing.judged (text_at self.now.view.source.now self.now.view.tokens.now)) (text_at self.now.view.source.now self.now.view.tokens.now) self.now.view.file.now self.now.view.before.now self.now.gives.now (level.While t test.now (places.stmt_of (text_at self.now.view.source.now self.now.view.tokens.now) self.now.view.file.now self.now.view.before.now self.now.gives.now body.now))) inside.old inside.new notes.old notes.new) }
+        ensures { OnOk result (Leads (faults.stmt_level
+            (typing.judged (text_at self.now.view.source.now self.now.view.tokens.now))
+            (text_at self.now.view.source.now self.now.view.tokens.now) self.now.view.file.now self.now.view.before.now
+            self.now.gives.now (level.While t test.now
+            (places.stmt_of (text_at self.now.view.source.now self.now.view.tokens.now) self.now.view.file.now
+            self.now.view.before.now self.now.gives.now body.now))) inside.old inside.new notes.old notes.new) }
     {
         self.test(t, test, inside, notes)?;
         self.turn(body, inside, notes)
@@ -360,7 +426,12 @@ impl Body<'_> {
         inside: &mut Inside,
         notes: &mut Items<Note>,
     ) -> Result<(), NoMemory>
-        ensures { OnOk result (Leads (faults.stmt_level (typing.judged (text_at self.now.view.source.now self.now.view.tokens.now)) (text_at self.now.view.source.now self.now.view.tokens.now) self.now.view.file.now self.now.view.before.now self.now.gives.now (level.Do t (places.stmt_of (text_at self.now.view.source.now self.now.view.tokens.now) self.now.view.file.now self.now.view.before.now self.now.gives.now body.now) test.now)) inside.old inside.new notes.old notes.new) }
+        ensures { OnOk result (Leads (faults.stmt_level
+            (typing.judged (text_at self.now.view.source.now self.now.view.tokens.now))
+            (text_at self.now.view.source.now self.now.view.tokens.now) self.now.view.file.now self.now.view.before.now
+            self.now.gives.now (level.Do t (places.stmt_of
+            (text_at self.now.view.source.now self.now.view.tokens.now) self.now.view.file.now self.now.view.before.now
+            self.now.gives.now body.now) test.now)) inside.old inside.new notes.old notes.new) }
     {
         self.turn(body, inside, notes)?;
         self.test(t, test, inside, notes)
@@ -378,7 +449,12 @@ impl Body<'_> {
         inside: &mut Inside,
         notes: &mut Items<Note>,
     ) -> Result<(), NoMemory>
-        ensures { OnOk result (Leads (faults.stmt_level (typing.judged (text_at self.now.view.source.now self.now.view.tokens.now)) (text_at self.now.view.source.now self.now.view.tokens.now) self.now.view.file.now self.now.view.before.now self.now.gives.now (level.For t head.now test.now next.now (places.stmt_of (text_at self.now.view.source.now self.now.view.tokens.now) self.now.view.file.now self.now.view.before.now self.now.gives.now body.now))) inside.old inside.new notes.old notes.new) }
+        ensures { OnOk result (Leads (faults.stmt_level
+            (typing.judged (text_at self.now.view.source.now self.now.view.tokens.now))
+            (text_at self.now.view.source.now self.now.view.tokens.now) self.now.view.file.now self.now.view.before.now
+            self.now.gives.now (level.For t head.now test.now next.now
+            (places.stmt_of (text_at self.now.view.source.now self.now.view.tokens.now) self.now.view.file.now
+            self.now.view.before.now self.now.gives.now body.now))) inside.old inside.new notes.old notes.new) }
     {
         inside.open(self.view.alloc)?;
         self.head(head, inside, notes)?;
@@ -397,7 +473,9 @@ impl Body<'_> {
         inside: &mut Inside,
         notes: &mut Items<Note>,
     ) -> Result<(), NoMemory>
-        ensures { OnOk result (Leads (places.turn (places.stmt_of (text_at self.now.view.source.now self.now.view.tokens.now) self.now.view.file.now self.now.view.before.now self.now.gives.now body.now)) inside.old inside.new notes.old notes.new) }
+        ensures { OnOk result (Leads (places.turn
+            (places.stmt_of (text_at self.now.view.source.now self.now.view.tokens.now) self.now.view.file.now
+            self.now.view.before.now self.now.gives.now body.now)) inside.old inside.new notes.old notes.new) }
     {
         let outer = inside.in_loop;
         inside.in_loop = true;
@@ -414,7 +492,9 @@ impl Body<'_> {
         inside: &mut Inside,
         notes: &mut Items<Note>,
     ) -> Result<(), NoMemory>
-        ensures { OnOk result (Leads (faults.body_of (faults.part_of (text_at self.now.view.source.now self.now.view.tokens.now) self.now.view.file.now self.now.view.before.now self.now.gives.now) parts.now) inside.old inside.new notes.old notes.new) }
+        ensures { OnOk result (Leads (faults.body_of
+            (faults.part_of (text_at self.now.view.source.now self.now.view.tokens.now) self.now.view.file.now
+            self.now.view.before.now self.now.gives.now) parts.now) inside.old inside.new notes.old notes.new) }
     {
         for part in parts {
             self.part(part, inside, notes)?;
@@ -430,7 +510,9 @@ impl Body<'_> {
         inside: &mut Inside,
         notes: &mut Items<Note>,
     ) -> Result<(), NoMemory>
-        ensures { OnOk result (Leads (faults.part_of (text_at self.now.view.source.now self.now.view.tokens.now) self.now.view.file.now self.now.view.before.now self.now.gives.now part.now) inside.old inside.new notes.old notes.new) }
+        ensures { OnOk result (Leads (faults.part_of
+            (text_at self.now.view.source.now self.now.view.tokens.now) self.now.view.file.now self.now.view.before.now
+            self.now.gives.now part.now) inside.old inside.new notes.old notes.new) }
     {
         match part {
             Part::Decl(decl) => self.declareds(decl.base, decl.parts.as_slice(), inside, notes),

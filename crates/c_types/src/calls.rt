@@ -61,7 +61,9 @@ fn note_due(param: &Option<CType>, arg: &Operand, notes: &mut Items<Note>) -> Re
 
 /// What is said of an argument.
 fn note_arg(param: &Option<CType>, arg: &Operand, notes: &mut Items<Note>) -> Result<(), NoMemory>
-    ensures { OnOk result (notes.new ≡ notes.old ++ (typing.rule arg.now.first true (typing.param_takes param.now arg.now) ++ typing.null_due param.now arg.now)) }
+    ensures { OnOk result (notes.new ≡ notes.old
+        ++ (typing.rule arg.now.first true (typing.param_takes param.now arg.now)
+        ++ typing.null_due param.now arg.now)) }
 {
     note_rule(arg.first, param_takes(param, arg), notes)?;
     note_due(param, arg, notes)
@@ -163,8 +165,10 @@ fn called(
 impl View<'_> {
     /// A call as a value, with its arguments.
     pub fn call(&self, t: u32, args: &[Operand], notes: &mut Items<Note>) -> Result<Shape, NoMemory>
-        ensures { IfOk result (λ s. told (typing.call_value (text_at self.now.source.now self.now.tokens.now) (seen self.now.file.now self.now.before.now self.now.scopes.now) 0 t args.now
-            (typing.callee (text_at self.now.source.now self.now.tokens.now) (seen self.now.file.now self.now.before.now self.now.scopes.now) t) notes.old) ≡ answer s notes.new) }
+        ensures { IfOk result (λ s. told (typing.call_value (text_at self.now.source.now self.now.tokens.now)
+            (seen self.now.file.now self.now.before.now self.now.scopes.now) 0 t args.now
+            (typing.callee (text_at self.now.source.now self.now.tokens.now)
+            (seen self.now.file.now self.now.before.now self.now.scopes.now) t) notes.old) ≡ answer s notes.new) }
     {
         let number = match self.callee(t) {
             Some(number) => number,

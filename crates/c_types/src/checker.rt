@@ -50,7 +50,8 @@ pub enum TypeFault {
 
 /// The fault as it is answered.
 fn fault_of(found: Found) -> TypeFault
-    ensures { (text : ℕ → scopes.Text) (l : List SourceItem) (entry : scopes.Text) → faults.IsFirst text l (fault found) → IsTypeFault text l entry result }
+    ensures { (text : ℕ → scopes.Text) (l : List SourceItem) (entry : scopes.Text)
+        → faults.IsFirst text l (fault found) → IsTypeFault text l entry result }
 {
     match found.what {
         Wrong::Unknown => TypeFault::Unknown(found.token),
@@ -63,8 +64,10 @@ fn fault_of(found: Found) -> TypeFault
 /// The number of the function with a body that has the name.
 fn tested(file: &File, entry: &str) -> Option<u32>
     requires few_functions { length (file.now).functions < 2 ^ 32 }
-    requires numbered { scopes.has_name entry.now (file.now).bodies ≡ true → (n : ℕ) × (scopes.function_in entry.now (file.now).functions ≡ Some n) }
-    ensures some { IfSome result (λ n. (scopes.has_name entry.now (file.now).bodies ≡ true) × (scopes.function_in entry.now (file.now).functions ≡ Some n)) }
+    requires numbered { scopes.has_name entry.now (file.now).bodies ≡ true
+        → (n : ℕ) × (scopes.function_in entry.now (file.now).functions ≡ Some n) }
+    ensures some { IfSome result (λ n. (scopes.has_name entry.now (file.now).bodies ≡ true)
+        × (scopes.function_in entry.now (file.now).functions ≡ Some n)) }
     ensures none { IfNone result (scopes.has_name entry.now (file.now).bodies ≡ false) }
 {
     if !has_name(entry.as_bytes(), file.bodies.as_slice()) {
@@ -83,7 +86,8 @@ struct Reading {
 
 /// What items declare, what is said of them, and their sites.
 fn read(alloc: Global, source: &[u8], tokens: &[Token], parts: &[Item]) -> Result<Reading, NoMemory>
-    ensures read { IfOk result (λ r. AreRead (text_at source.now tokens.now) tokens.now parts.now r.file r.notes r.sites) }
+    ensures read { IfOk result (λ r. AreRead
+        (text_at source.now tokens.now) tokens.now parts.now r.file r.notes r.sites) }
     ensures few_tags { IfOk result (λ r. length (r.file).tags < 2 ^ 32) }
     ensures few_functions { IfOk result (λ r. length (r.file).functions < 2 ^ 32) }
 {
@@ -97,7 +101,8 @@ fn read(alloc: Global, source: &[u8], tokens: &[Token], parts: &[Item]) -> Resul
 /// The first fault of what was read.
 fn fault_in(reading: &Reading) -> Option<Found>
     ensures { (text : ℕ → scopes.Text) (tokens : List SourceToken) (l : List SourceItem)
-        → AreRead text tokens l (reading.now).file (reading.now).notes (reading.now).sites → IsLeast (faults.faults_in text l) result }
+        → AreRead text tokens l (reading.now).file (reading.now).notes (reading.now).sites
+        → IsLeast (faults.faults_in text l) result }
 {
     first_fault(
         reading.notes.as_slice(),
@@ -115,7 +120,8 @@ pub fn check(
     program: Program,
     entry: &str,
 ) -> Result<Checked, TypeFault>
-    ensures checked { IfOk result (λ c. (c.program ≡ program) × IsChecked (text_at source.now tokens.now) tokens.now entry.now c) }
+    ensures checked { IfOk result (λ c. (c.program ≡ program)
+        × IsChecked (text_at source.now tokens.now) tokens.now entry.now c) }
     ensures refused { IfErr result (λ e. IsTypeFault (text_at source.now tokens.now) (program).items entry.now e) }
 {
     let reading = match read(alloc, source, tokens, program.items.as_slice()) {

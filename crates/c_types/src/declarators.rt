@@ -98,7 +98,9 @@ impl View<'_> {
 
     /// Whether the innermost scope has the name already, or it is that of a typedef.
     pub fn is_declared(&self, t: u32) -> bool
-        ensures { result ≡ (faults.in_scope ((text_at self.now.source.now self.now.tokens.now) t) self.now.scopes.now || scopes.is_alias self.now.before.now ((text_at self.now.source.now self.now.tokens.now) t)) }
+        ensures { result ≡ (faults.in_scope
+            ((text_at self.now.source.now self.now.tokens.now) t) self.now.scopes.now || scopes.is_alias
+            self.now.before.now ((text_at self.now.source.now self.now.tokens.now) t)) }
     {
         in_scope(self.text(t), self.scopes) || self.is_alias(t)
     }
@@ -112,7 +114,10 @@ impl View<'_> {
         ty: &Option<CType>,
         notes: &mut Items<Note>,
     ) -> Result<(), NoMemory>
-        ensures { OnOk result (notes.new ≡ notes.old ++ faults.local_notes (typing.judged (text_at self.now.source.now self.now.tokens.now)) (text_at self.now.source.now self.now.tokens.now) self.now.file.now self.now.before.now None base declarator.now ty.now (here_at self.now.scopes.now next)) }
+        ensures { OnOk result (notes.new ≡ notes.old
+            ++ faults.local_notes (typing.judged (text_at self.now.source.now self.now.tokens.now))
+            (text_at self.now.source.now self.now.tokens.now) self.now.file.now self.now.before.now None base
+            declarator.now ty.now (here_at self.now.scopes.now next)) }
     {
         note_unknown(ty, base, notes)?;
         note_lengths(declarator.lengths.as_slice(), notes)?;

@@ -42,7 +42,8 @@ fn add_struct_tag(
     definition: &StructDef,
     tags: &mut Items<Option<Text>>,
 ) -> Result<(), NoMemory>
-    ensures { OnOk result (tags.new ≡ tags.old ++ scopes.tags_of (text_at source.now tokens.now) (some_item.Struct definition.now ∷ [])) }
+    ensures { OnOk result (tags.new ≡ tags.old
+        ++ scopes.tags_of (text_at source.now tokens.now) (some_item.Struct definition.now ∷ [])) }
 {
     match definition {
         StructDef::Tagged(tag, _) => {
@@ -111,7 +112,8 @@ impl TypeNames<'_> {
         base: Base,
         declarator: &Declarator,
     ) -> Result<Member, NoMemory>
-        ensures { IfOk result (λ m. m ≡ scopes.field_of (text_at self.now.source.now self.now.tokens.now) self.now.tags.now before.now base declarator.now) }
+        ensures { IfOk result (λ m. m ≡ scopes.field_of
+            (text_at self.now.source.now self.now.tokens.now) self.now.tags.now before.now base declarator.now) }
     {
         let name = self.name(declarator.name)?;
         let ty = self.declared_type(before, base, declarator)?;
@@ -126,7 +128,9 @@ impl TypeNames<'_> {
         parts: &[Declarator],
         fields: &mut Items<Member>,
     ) -> Result<(), NoMemory>
-        ensures { OnOk result (fields.new ≡ fields.old ++ map (scopes.field_of (text_at self.now.source.now self.now.tokens.now) self.now.tags.now before.now base) parts.now) }
+        ensures { OnOk result (fields.new ≡ fields.old
+            ++ map (scopes.field_of (text_at self.now.source.now self.now.tokens.now) self.now.tags.now before.now
+            base) parts.now) }
     {
         for declarator in parts {
             let field = self.field(before, base, declarator)?;
@@ -137,7 +141,8 @@ impl TypeNames<'_> {
 
     /// The fields of a struct.
     fn fields(&self, before: &Preceding, lines: &[Field]) -> Result<Items<Member>, NoMemory>
-        ensures { IfOk result (λ l. l ≡ scopes.fields_of (text_at self.now.source.now self.now.tokens.now) self.now.tags.now before.now lines.now) }
+        ensures { IfOk result (λ l. l ≡ scopes.fields_of
+            (text_at self.now.source.now self.now.tokens.now) self.now.tags.now before.now lines.now) }
     {
         let mut fields = Items::new(self.alloc);
         for line in lines {
@@ -153,7 +158,9 @@ impl TypeNames<'_> {
         definition: &StructDef,
         structs: &mut Items<Items<Member>>,
     ) -> Result<(), NoMemory>
-        ensures { OnOk result (structs.new ≡ structs.old ++ scopes.structs_in (text_at self.now.source.now self.now.tokens.now) self.now.tags.now before.now (some_item.Struct definition.now ∷ [])) }
+        ensures { OnOk result (structs.new ≡ structs.old
+            ++ scopes.structs_in (text_at self.now.source.now self.now.tokens.now) self.now.tags.now before.now
+            (some_item.Struct definition.now ∷ [])) }
     {
         match definition {
             StructDef::Tagged(_, lines) => {
@@ -175,7 +182,9 @@ impl TypeNames<'_> {
         item: &Item,
         structs: &mut Items<Items<Member>>,
     ) -> Result<(), NoMemory>
-        ensures { OnOk result (structs.new ≡ structs.old ++ scopes.structs_in (text_at self.now.source.now self.now.tokens.now) self.now.tags.now before.now (item.now ∷ [])) }
+        ensures { OnOk result (structs.new ≡ structs.old
+            ++ scopes.structs_in (text_at self.now.source.now self.now.tokens.now) self.now.tags.now before.now
+            (item.now ∷ [])) }
     {
         match item {
             Item::Struct(definition) => self.add_fields(before, definition, structs),
@@ -191,7 +200,8 @@ impl TypeNames<'_> {
         before: &Preceding,
         params: &[Param],
     ) -> Result<Items<Option<CType>>, NoMemory>
-        ensures { IfOk result (λ l. l ≡ scopes.func_params (text_at self.now.source.now self.now.tokens.now) self.now.tags.now before.now params.now) }
+        ensures { IfOk result (λ l. l ≡ scopes.func_params
+            (text_at self.now.source.now self.now.tokens.now) self.now.tags.now before.now params.now) }
     {
         let mut types = Items::new(self.alloc);
         for param in params {
@@ -206,7 +216,8 @@ impl TypeNames<'_> {
         before: &Preceding,
         params: &[ProtoParam],
     ) -> Result<Items<Option<CType>>, NoMemory>
-        ensures { IfOk result (λ l. l ≡ scopes.proto_params (text_at self.now.source.now self.now.tokens.now) self.now.tags.now before.now params.now) }
+        ensures { IfOk result (λ l. l ≡ scopes.proto_params
+            (text_at self.now.source.now self.now.tokens.now) self.now.tags.now before.now params.now) }
     {
         let mut types = Items::new(self.alloc);
         for param in params {
@@ -219,8 +230,10 @@ impl TypeNames<'_> {
     pub fn function_of(&self, before: &Preceding, function: &Func) -> Result<Function, NoMemory>
         ensures { IfOk result (λ f. f ≡ record {
           name = text_at self.now.source.now self.now.tokens.now (function.now).name;
-          result = scopes.result_type (text_at self.now.source.now self.now.tokens.now) self.now.tags.now before.now (function.now).result;
-          params = scopes.func_params (text_at self.now.source.now self.now.tokens.now) self.now.tags.now before.now (function.now).params;
+          result = scopes.result_type (text_at self.now.source.now self.now.tokens.now) self.now.tags.now before.now
+              (function.now).result;
+          params = scopes.func_params (text_at self.now.source.now self.now.tokens.now) self.now.tags.now before.now
+              (function.now).params;
         }) }
     {
         let name = self.name(function.name)?;
@@ -242,8 +255,10 @@ impl TypeNames<'_> {
     ) -> Result<Function, NoMemory>
         ensures { IfOk result (λ f. f ≡ record {
           name = text_at self.now.source.now self.now.tokens.now name;
-          result = scopes.result_type (text_at self.now.source.now self.now.tokens.now) self.now.tags.now before.now gives;
-          params = scopes.proto_params (text_at self.now.source.now self.now.tokens.now) self.now.tags.now before.now params.now;
+          result = scopes.result_type (text_at self.now.source.now self.now.tokens.now) self.now.tags.now before.now
+              gives;
+          params = scopes.proto_params (text_at self.now.source.now self.now.tokens.now) self.now.tags.now before.now
+              params.now;
         }) }
     {
         let name = self.name(name)?;
@@ -262,7 +277,9 @@ impl TypeNames<'_> {
         function: Function,
         functions: &mut Items<Function>,
     ) -> Result<(), NoMemory>
-        ensures { OnOk result (functions.new ≡ functions.old ++ scopes.if_first (text_at self.now.source.now self.now.tokens.now) self.now.tags.now before.now function []) }
+        ensures { OnOk result (functions.new
+            ≡ functions.old ++ scopes.if_first (text_at self.now.source.now self.now.tokens.now) self.now.tags.now
+            before.now function []) }
     {
         if !before.has_function(function.name.as_slice()) {
             functions.push(function)?;
@@ -277,7 +294,9 @@ impl TypeNames<'_> {
         item: &Item,
         functions: &mut Items<Function>,
     ) -> Result<(), NoMemory>
-        ensures { OnOk result (functions.new ≡ functions.old ++ scopes.functions_in (text_at self.now.source.now self.now.tokens.now) self.now.tags.now before.now (item.now ∷ [])) }
+        ensures { OnOk result (functions.new
+            ≡ functions.old ++ scopes.functions_in
+            (text_at self.now.source.now self.now.tokens.now) self.now.tags.now before.now (item.now ∷ [])) }
     {
         match item {
             Item::Func(function) => {
@@ -302,9 +321,15 @@ impl TypeNames<'_> {
         structs: &mut Items<Items<Member>>,
         functions: &mut Items<Function>,
     ) -> Result<(), NoMemory>
-        ensures structs { OnOk result (structs.new ≡ structs.old ++ scopes.structs_in (text_at self.now.source.now self.now.tokens.now) self.now.tags.now before.old (item.now ∷ [])) }
-        ensures functions { OnOk result (functions.new ≡ functions.old ++ scopes.functions_in (text_at self.now.source.now self.now.tokens.now) self.now.tags.now before.old (item.now ∷ [])) }
-        ensures before { OnOk result (before.new ≡ scopes.after_item (text_at self.now.source.now self.now.tokens.now) self.now.tags.now before.old item.now) }
+        ensures structs { OnOk result (structs.new
+            ≡ structs.old ++ scopes.structs_in (text_at self.now.source.now self.now.tokens.now) self.now.tags.now
+            before.old (item.now ∷ [])) }
+        ensures functions { OnOk result (functions.new
+            ≡ functions.old ++ scopes.functions_in
+            (text_at self.now.source.now self.now.tokens.now) self.now.tags.now before.old (item.now ∷ [])) }
+        ensures before { OnOk result (before.new
+            ≡ scopes.after_item (text_at self.now.source.now self.now.tokens.now) self.now.tags.now before.old
+            item.now) }
     {
         self.add_struct(&*before, item, structs)?;
         self.add_function(&*before, item, functions)?;
@@ -328,9 +353,12 @@ fn walk(
     tags: &TagIndex,
     items: &[Item],
 ) -> Result<Gathered, NoMemory>
-    ensures bodies { IfOk result (λ g. g.bodies ≡ (scopes.after_items (text_at source.now tokens.now) tags.now scopes.nothing_before items.now).bodies) }
-    ensures structs { IfOk result (λ g. g.structs ≡ scopes.structs_in (text_at source.now tokens.now) tags.now scopes.nothing_before items.now) }
-    ensures functions { IfOk result (λ g. g.functions ≡ scopes.functions_in (text_at source.now tokens.now) tags.now scopes.nothing_before items.now) }
+    ensures bodies { IfOk result (λ g. g.bodies
+        ≡ (scopes.after_items (text_at source.now tokens.now) tags.now scopes.nothing_before items.now).bodies) }
+    ensures structs { IfOk result (λ g. g.structs
+        ≡ scopes.structs_in (text_at source.now tokens.now) tags.now scopes.nothing_before items.now) }
+    ensures functions { IfOk result (λ g. g.functions
+        ≡ scopes.functions_in (text_at source.now tokens.now) tags.now scopes.nothing_before items.now) }
     ensures few_tags { OnOk result (length tags.now < 2 ^ 32) }
 {
     narrow(tags.as_slice().len())?;
@@ -361,9 +389,12 @@ fn gather(
     tags: &[Option<Text>],
     items: &[Item],
 ) -> Result<Gathered, NoMemory>
-    ensures bodies { IfOk result (λ g. g.bodies ≡ (scopes.after_items (text_at source.now tokens.now) tags.now scopes.nothing_before items.now).bodies) }
-    ensures structs { IfOk result (λ g. g.structs ≡ scopes.structs_in (text_at source.now tokens.now) tags.now scopes.nothing_before items.now) }
-    ensures functions { IfOk result (λ g. g.functions ≡ scopes.functions_in (text_at source.now tokens.now) tags.now scopes.nothing_before items.now) }
+    ensures bodies { IfOk result (λ g. g.bodies
+        ≡ (scopes.after_items (text_at source.now tokens.now) tags.now scopes.nothing_before items.now).bodies) }
+    ensures structs { IfOk result (λ g. g.structs
+        ≡ scopes.structs_in (text_at source.now tokens.now) tags.now scopes.nothing_before items.now) }
+    ensures functions { IfOk result (λ g. g.functions
+        ≡ scopes.functions_in (text_at source.now tokens.now) tags.now scopes.nothing_before items.now) }
     ensures few_tags { OnOk result (length tags.now < 2 ^ 32) }
 {
     let index = tag_index(alloc, tags)?;

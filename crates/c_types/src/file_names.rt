@@ -12,7 +12,8 @@ use cc_model::typing::{File, Function, Member, Text};
 use sqlite_items::Items;
 use std::alloc::Global;
 
-/// The tags of a file's structs; the names of its functions, and of those with a body; whether all types of a function's first declaration are known; and the names and the offsets in cells of the fields of each struct.
+/// The tags of a file's structs; the names of its functions, and of those with a body; whether all types of a
+/// function's first declaration are known; and the names and the offsets in cells of the fields of each struct.
 #[derive(Drop)]
 pub struct FileNames {
     pub tags: TagIndex,

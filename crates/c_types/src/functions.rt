@@ -60,7 +60,9 @@ impl View<'_> {
         ty: &Option<CType>,
         notes: &mut Items<Note>,
     ) -> Result<(), NoMemory>
-        ensures { OnOk result (notes.new ≡ notes.old ++ faults.param_notes (text_at self.now.source.now self.now.tokens.now) self.now.file.now self.now.before.now param ty.now (here_at self.now.scopes.now next)) }
+        ensures { OnOk result (notes.new ≡ notes.old
+            ++ faults.param_notes (text_at self.now.source.now self.now.tokens.now) self.now.file.now
+            self.now.before.now param ty.now (here_at self.now.scopes.now next)) }
     {
         note_unknown(ty, param.ty.base, notes)?;
         note_no_struct(param.name, ty, notes)?;

@@ -45,7 +45,8 @@ impl View<'_> {
 
     /// What a start value is.
     fn start_shape(&self, value: StartValue) -> Shape
-        ensures { result ≡ faults.start_shape (text_at self.now.source.now self.now.tokens.now) self.now.file.now value }
+        ensures { result ≡ faults.start_shape
+            (text_at self.now.source.now self.now.tokens.now) self.now.file.now value }
     {
         match value {
             StartValue::Number(t, value) => number_shape(self.alloc, t, value),
@@ -61,7 +62,8 @@ impl View<'_> {
         ty: &Option<CType>,
         notes: &mut Items<Note>,
     ) -> Result<(), NoMemory>
-        ensures { OnOk result (notes.new ≡ notes.old ++ faults.global_start (text_at self.now.source.now self.now.tokens.now) self.now.file.now start ty.now) }
+        ensures { OnOk result (notes.new ≡ notes.old
+            ++ faults.global_start (text_at self.now.source.now self.now.tokens.now) self.now.file.now start ty.now) }
     {
         let start = match start {
             Some(start) => start,
@@ -84,7 +86,14 @@ impl View<'_> {
         ty: &Option<CType>,
         notes: &mut Items<Note>,
     ) -> Result<(), NoMemory>
-        ensures { OnOk result (notes.new ≡ notes.old ++ faults.global_notes (text_at self.now.source.now self.now.tokens.now) self.now.file.now self.now.before.now base part.now (record { name = (text_at self.now.source.now self.now.tokens.now) (part.now).declarator.name; ty = ty.now; target = GlobalTarget number })) }
+        ensures { OnOk result (notes.new ≡ notes.old
+            ++ faults.global_notes (text_at self.now.source.now self.now.tokens.now) self.now.file.now
+            self.now.before.now base part.now (record {
+              name = (text_at self.now.source.now self.now.tokens.now)
+                  (part.now).declarator.name;
+              ty = ty.now;
+              target = GlobalTarget number;
+            })) }
     {
         let declarator = &part.declarator;
         note_unknown(ty, base, notes)?;
@@ -108,7 +117,11 @@ impl View<'_> {
         part: &GlobalPart,
         notes: &mut Items<Note>,
     ) -> Result<(), NoMemory>
-        ensures { OnOk result (notes.new ≡ notes.old ++ faults.global_notes (text_at self.now.source.now self.now.tokens.now) self.now.file.now self.now.before.now base part.now (scopes.global_of (text_at self.now.source.now self.now.tokens.now) self.now.file.now.tags self.now.before.now base part.now)) }
+        ensures { OnOk result (notes.new ≡ notes.old
+            ++ faults.global_notes (text_at self.now.source.now self.now.tokens.now) self.now.file.now
+            self.now.before.now base part.now (scopes.global_of
+            (text_at self.now.source.now self.now.tokens.now) self.now.file.now.tags self.now.before.now base
+            part.now)) }
     {
         let number = count(self.before.globals())?;
         let ty = self.declared_type(base, &part.declarator)?;
@@ -125,8 +138,12 @@ impl Sources<'_> {
         before: &mut Preceding,
         notes: &mut Items<Note>,
     ) -> Result<(), NoMemory>
-        ensures notes { OnOk result (notes.new ≡ notes.old ++ faults.globals_notes (text_at self.now.source.now self.now.tokens.now) self.now.file.now before.old base parts.now) }
-        ensures before { OnOk result (before.new ≡ scopes.after_globals (text_at self.now.source.now self.now.tokens.now) self.now.file.now.tags before.old base parts.now) }
+        ensures notes { OnOk result (notes.new
+            ≡ notes.old ++ faults.globals_notes
+            (text_at self.now.source.now self.now.tokens.now) self.now.file.now before.old base parts.now) }
+        ensures before { OnOk result (before.new
+            ≡ scopes.after_globals (text_at self.now.source.now self.now.tokens.now) self.now.file.now.tags before.old
+            base parts.now) }
     {
         for part in parts {
             let view = View {

@@ -12,7 +12,8 @@ use cc_model::typing::{CType, Variable};
 use sqlite_items::Items;
 use std::alloc::Global;
 
-/// A place of a function: the variables of each scope around, the innermost scope last; the number of the next local; whether a loop is around.
+/// A place of a function: the variables of each scope around, the innermost scope last; the number of the next local;
+/// whether a loop is around.
 #[derive(Drop)]
 pub struct Inside {
     pub scopes: Items<Named<Variable>>,

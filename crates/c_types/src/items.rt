@@ -22,7 +22,9 @@ use std::alloc::Global;
 impl View<'_> {
     /// Notes a tag that no struct of the file has.
     fn note_unknown_tag(&self, tag: u32, notes: &mut Items<Note>) -> Result<(), NoMemory>
-        ensures { OnOk result (notes.new ≡ notes.old ++ faults.unknown_tag (text_at self.now.source.now self.now.tokens.now) self.now.file.now (scopes.tag_in ((text_at self.now.source.now self.now.tokens.now) tag) self.now.file.now.tags) tag) }
+        ensures { OnOk result (notes.new ≡ notes.old
+            ++ faults.unknown_tag (text_at self.now.source.now self.now.tokens.now) self.now.file.now
+            (scopes.tag_in ((text_at self.now.source.now self.now.tokens.now) tag) self.now.file.now.tags) tag) }
     {
         match self.tag_of(tag) {
             Some(_) => {}
@@ -33,7 +35,11 @@ impl View<'_> {
 
     /// A typedef of a struct's tag.
     fn alias(&self, tag: u32, name: u32, notes: &mut Items<Note>) -> Result<(), NoMemory>
-        ensures { OnOk result (notes.new ≡ notes.old ++ (faults.unknown_tag (text_at self.now.source.now self.now.tokens.now) self.now.file.now (scopes.tag_in ((text_at self.now.source.now self.now.tokens.now) tag) self.now.file.now.tags) tag ++ faults.twice_if (scopes.is_taken self.now.before.now ((text_at self.now.source.now self.now.tokens.now) name)) name)) }
+        ensures { OnOk result (notes.new ≡ notes.old
+            ++ (faults.unknown_tag (text_at self.now.source.now self.now.tokens.now) self.now.file.now
+            (scopes.tag_in ((text_at self.now.source.now self.now.tokens.now) tag) self.now.file.now.tags) tag
+            ++ faults.twice_if (scopes.is_taken self.now.before.now
+            ((text_at self.now.source.now self.now.tokens.now) name)) name)) }
     {
         self.note_unknown_tag(tag, notes)?;
         note_twice(self.is_taken(name), name, notes)
@@ -41,14 +47,18 @@ impl View<'_> {
 
     /// Whether a function of that name has a body before.
     fn has_body(&self, name: u32) -> bool
-        ensures { result ≡ scopes.has_name ((text_at self.now.source.now self.now.tokens.now) name) self.now.before.now.bodies }
+        ensures { result ≡ scopes.has_name ((text_at self.now.source.now self.now.tokens.now) name)
+            self.now.before.now.bodies }
     {
         self.before.has_body(self.text(name))
     }
 
     /// A function with a body.
     fn func(&self, function: &Func, notes: &mut Items<Note>) -> Result<(), NoMemory>
-        ensures { OnOk result (notes.new ≡ notes.old ++ faults.func_notes (text_at self.now.source.now self.now.tokens.now) self.now.file.now (faults.part_of (text_at self.now.source.now self.now.tokens.now) self.now.file.now) self.now.before.now function.now) }
+        ensures { OnOk result (notes.new ≡ notes.old
+            ++ faults.func_notes (text_at self.now.source.now self.now.tokens.now) self.now.file.now
+            (faults.part_of (text_at self.now.source.now self.now.tokens.now) self.now.file.now) self.now.before.now
+            function.now) }
     {
         let declared = self.function_of(function)?;
         let again = self.has_body(function.name);
@@ -64,7 +74,13 @@ impl View<'_> {
         params: &[ProtoParam],
         notes: &mut Items<Note>,
     ) -> Result<(), NoMemory>
-        ensures { OnOk result (notes.new ≡ notes.old ++ (faults.function_notes (text_at self.now.source.now self.now.tokens.now) self.now.file.now self.now.before.now name gives (faults.prototype_of (text_at self.now.source.now self.now.tokens.now) self.now.file.now self.now.before.now gives name params.now) false ++ faults.protos_notes (text_at self.now.source.now self.now.tokens.now) self.now.file.now self.now.before.now name [] params.now)) }
+        ensures { OnOk result (notes.new ≡ notes.old
+            ++ (faults.function_notes (text_at self.now.source.now self.now.tokens.now) self.now.file.now
+            self.now.before.now name gives (faults.prototype_of
+            (text_at self.now.source.now self.now.tokens.now) self.now.file.now self.now.before.now gives name
+            params.now) false ++ faults.protos_notes
+            (text_at self.now.source.now self.now.tokens.now) self.now.file.now self.now.before.now name
+            [] params.now)) }
     {
         let declared = self.prototype_of(gives, name, params)?;
         self.note_function(name, gives, &declared, false, notes)?;
@@ -73,7 +89,8 @@ impl View<'_> {
 
     /// An item that is no line of globals.
     fn item(&self, item: &Item, notes: &mut Items<Note>) -> Result<(), NoMemory>
-        ensures { OnOk result (notes.new ≡ notes.old ++ apart (text_at self.now.source.now self.now.tokens.now) self.now.file.now self.now.before.now item.now) }
+        ensures { OnOk result (notes.new ≡ notes.old
+            ++ apart (text_at self.now.source.now self.now.tokens.now) self.now.file.now self.now.before.now item.now) }
     {
         match item {
             Item::Alias(tag, name) => self.alias(*tag, *name, notes),
@@ -95,8 +112,12 @@ impl Sources<'_> {
         before: &mut Preceding,
         notes: &mut Items<Note>,
     ) -> Result<(), NoMemory>
-        ensures notes { OnOk result (notes.new ≡ notes.old ++ faults.item_notes (text_at self.now.source.now self.now.tokens.now) self.now.file.now (faults.part_of (text_at self.now.source.now self.now.tokens.now) self.now.file.now) before.old item.now) }
-        ensures before { OnOk result (before.new ≡ scopes.after_item (text_at self.now.source.now self.now.tokens.now) self.now.file.now.tags before.old item.now) }
+        ensures notes { OnOk result (notes.new
+            ≡ notes.old ++ faults.item_notes (text_at self.now.source.now self.now.tokens.now) self.now.file.now
+            (faults.part_of (text_at self.now.source.now self.now.tokens.now) self.now.file.now) before.old item.now) }
+        ensures before { OnOk result (before.new
+            ≡ scopes.after_item (text_at self.now.source.now self.now.tokens.now) self.now.file.now.tags before.old
+            item.now) }
     {
         if let Item::Globals(base, parts) = item {
             return self.globals(*base, parts.as_slice(), before, notes);
@@ -123,7 +144,10 @@ impl Sources<'_> {
 
     /// The items of a file.
     fn items(&self, items: &[Item], notes: &mut Items<Note>) -> Result<(), NoMemory>
-        ensures { OnOk result (notes.new ≡ notes.old ++ faults.items_notes (text_at self.now.source.now self.now.tokens.now) self.now.file.now (faults.part_of (text_at self.now.source.now self.now.tokens.now) self.now.file.now) scopes.nothing_before items.now) }
+        ensures { OnOk result (notes.new ≡ notes.old
+            ++ faults.items_notes (text_at self.now.source.now self.now.tokens.now) self.now.file.now
+            (faults.part_of (text_at self.now.source.now self.now.tokens.now) self.now.file.now) scopes.nothing_before
+            items.now) }
     {
         let mut before = Preceding::nothing(self.alloc);
         for item in items {
@@ -144,7 +168,9 @@ pub fn items(
 ) -> Result<(), NoMemory>
     requires few_tags { length (file.now).tags < 2 ^ 32 }
     requires few_functions { length (file.now).functions < 2 ^ 32 }
-    ensures { OnOk result (notes.new ≡ notes.old ++ faults.items_notes (text_at source.now tokens.now) file.now (faults.part_of (text_at source.now tokens.now) file.now) scopes.nothing_before items.now) }
+    ensures { OnOk result (notes.new ≡ notes.old
+        ++ faults.items_notes (text_at source.now tokens.now) file.now
+        (faults.part_of (text_at source.now tokens.now) file.now) scopes.nothing_before items.now) }
 {
     let names = file_names(alloc, file)?;
     let sources = Sources {

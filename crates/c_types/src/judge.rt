@@ -20,7 +20,9 @@ use sqlite_items::Items;
 impl View<'_> {
     /// What the expression is, and what is said of its tokens behind the notes so far.
     pub fn judge(&self, e: &Expr, notes: &mut Items<Note>) -> Result<Shape, NoMemory>
-        ensures { IfOk result (λ s. behind notes.old (typing.judged (text_at self.now.source.now self.now.tokens.now) (seen self.now.file.now self.now.before.now self.now.scopes.now) e.now) ≡ answer s notes.new) }
+        ensures { IfOk result (λ s. behind notes.old
+            (typing.judged (text_at self.now.source.now self.now.tokens.now)
+            (seen self.now.file.now self.now.before.now self.now.scopes.now) e.now) ≡ answer s notes.new) }
     {
         self.tell(e, notes)
     }
@@ -32,8 +34,11 @@ impl View<'_> {
         args: &[Expr],
         notes: &mut Items<Note>,
     ) -> Result<Items<Operand>, NoMemory>
-        ensures { IfOk result (λ l. args_told (map typing.operand_of (map (typing.judged (text_at self.now.source.now self.now.tokens.now) (seen self.now.file.now self.now.before.now self.now.scopes.now)) args.now))
-            (notes.old ++ typing.notes_of (map (typing.judged (text_at self.now.source.now self.now.tokens.now) (seen self.now.file.now self.now.before.now self.now.scopes.now)) args.now)) ≡ args_told l notes.new) }
+        ensures { IfOk result (λ l. args_told
+            (map typing.operand_of (map (typing.judged (text_at self.now.source.now self.now.tokens.now)
+            (seen self.now.file.now self.now.before.now self.now.scopes.now)) args.now))
+            (notes.old ++ typing.notes_of (map (typing.judged (text_at self.now.source.now self.now.tokens.now)
+            (seen self.now.file.now self.now.before.now self.now.scopes.now)) args.now)) ≡ args_told l notes.new) }
     {
         self.tell_args(args, notes)
     }
@@ -41,7 +46,8 @@ impl View<'_> {
     /// What the expression is, and what is said of its tokens behind the notes so far.
     #[cycle(judging)]
     fn tell(&self, e: &Expr, notes: &mut Items<Note>) -> Result<Shape, NoMemory>
-        ensures { IfOk result (λ s. telling.tell (text_at self.now.source.now self.now.tokens.now) (seen self.now.file.now self.now.before.now self.now.scopes.now) e.now notes.old ≡ answer s notes.new) }
+        ensures { IfOk result (λ s. telling.tell (text_at self.now.source.now self.now.tokens.now)
+            (seen self.now.file.now self.now.before.now self.now.scopes.now) e.now notes.old ≡ answer s notes.new) }
     {
         let alloc = self.alloc;
         match e {
@@ -111,7 +117,10 @@ impl View<'_> {
     /// What the arguments are, from left to right.
     #[cycle(judging)]
     fn tell_args(&self, args: &[Expr], notes: &mut Items<Note>) -> Result<Items<Operand>, NoMemory>
-        ensures { IfOk result (λ l. telling.told_args (map (telling.telling (text_at self.now.source.now self.now.tokens.now) (seen self.now.file.now self.now.before.now self.now.scopes.now)) args.now) (telling.no_args notes.old) ≡ telling.args_told l notes.new) }
+        ensures { IfOk result (λ l. telling.told_args
+            (map (telling.telling (text_at self.now.source.now self.now.tokens.now)
+            (seen self.now.file.now self.now.before.now self.now.scopes.now)) args.now) (telling.no_args notes.old)
+            ≡ telling.args_told l notes.new) }
     {
         let mut operands = Items::new(self.alloc);
         for arg in args {

@@ -170,7 +170,8 @@ fn entries_cells(alloc: Global, structs: &[Layout], tys: &[Ty]) -> Result<Items<
     Ok(layouts)
 }
 
-/// The cells of each type of the table, by its number, where the file defines these structs. What pointers lead to is in the table afterwards.
+/// The cells of each type of the table, by its number, where the file defines these structs. What pointers lead to is
+/// in the table afterwards.
 pub fn layouts(
     alloc: Global,
     table: &mut Table,

@@ -52,7 +52,8 @@ fn earlier(f: Found, least: Option<Found>) -> Option<Found>
 
 /// The first of the fault that a note tells and of what was found.
 fn with_note(note: &Note, least: Option<Found>) -> Option<Found>
-    ensures { (l : List Note) (r : List faults.Found) → IsLeast (faults_among l ++ r) least → IsLeast (faults_among (note.now ∷ l) ++ r) result }
+    ensures { (l : List Note) (r : List faults.Found) → IsLeast (faults_among l ++ r) least
+        → IsLeast (faults_among (note.now ∷ l) ++ r) result }
 {
     match note {
         Note::Fault(what, token) => earlier(
@@ -69,7 +70,8 @@ fn with_note(note: &Note, least: Option<Found>) -> Option<Found>
     }
 }
 
-/// The first fault that the notes tell, and one of the sites: that of the least token, and at one token by kind; none where there is no fault.
+/// The first fault that the notes tell, and one of the sites: that of the least token, and at one token by kind; none
+/// where there is no fault.
 pub fn first_fault(notes: &[Note], site: Option<Found>) -> Option<Found>
     ensures { IsLeast (faults_among notes.now ++ faults_of site) result }
 {
@@ -87,7 +89,9 @@ const MOST_SITES: usize = 4096;
 
 /// The fault of the first site past the most that a program may have.
 pub fn sites_fault(sites: &[Site]) -> Option<Found>
-    ensures { (tokens : List Token) (items : List Item) → sites.now ≡ map (program.site_of tokens) (places.sites_in items) → faults_of result ≡ faults.sites_fault items }
+    ensures { (tokens : List Token) (items : List Item)
+        → sites.now ≡ map (program.site_of tokens) (places.sites_in items)
+        → faults_of result ≡ faults.sites_fault items }
 {
     match at(sites, MOST_SITES) {
         Some(site) => Some(Found {

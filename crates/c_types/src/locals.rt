@@ -45,7 +45,8 @@ fn copy_all(alloc: Global, types: &[CType]) -> Result<Items<CType>, NoMemory>
 impl Sources<'_> {
     /// The names of functions with a body.
     fn names_of(&self, bodies: &[Locals]) -> Result<NameIndex, NoMemory>
-        ensures { IfOk result (λ l. l ≡ map (λ (b : BodyLocals). text_at self.now.source.now self.now.tokens.now b.name) bodies.now) }
+        ensures { IfOk result (λ l. l ≡ map
+            (λ (b : BodyLocals). text_at self.now.source.now self.now.tokens.now b.name) bodies.now) }
     {
         let mut names = NameIndex::new(self.alloc);
         for body in bodies {
@@ -61,8 +62,11 @@ impl Sources<'_> {
         names: &NameIndex,
         bodies: &'a [Locals],
     ) -> Option<&'a Locals>
-        requires named { names.now ≡ map (λ (b : BodyLocals). text_at self.now.source.now self.now.tokens.now b.name) bodies.now }
-        ensures { option_copied result ≡ find (λ (b : BodyLocals). bytes_eq (text_at self.now.source.now self.now.tokens.now b.name) name.now) bodies.now }
+        requires named { names.now ≡ map (λ
+            (b : BodyLocals). text_at self.now.source.now self.now.tokens.now b.name) bodies.now }
+        ensures { option_copied result ≡ find
+            (λ (b : BodyLocals). bytes_eq (text_at self.now.source.now self.now.tokens.now b.name) name.now)
+            bodies.now }
     {
         match names.position(name) {
             Some(place) => at(bodies, place),
@@ -77,8 +81,10 @@ impl Sources<'_> {
         names: &NameIndex,
         bodies: &[Locals],
     ) -> Result<Items<CType>, NoMemory>
-        requires named { names.now ≡ map (λ (b : BodyLocals). text_at self.now.source.now self.now.tokens.now b.name) bodies.now }
-        ensures { IfOk result (λ l. l ≡ among.locals_named (text_at self.now.source.now self.now.tokens.now) name.now bodies.now) }
+        requires named { names.now ≡ map (λ
+            (b : BodyLocals). text_at self.now.source.now self.now.tokens.now b.name) bodies.now }
+        ensures { IfOk result (λ l. l ≡ among.locals_named
+            (text_at self.now.source.now self.now.tokens.now) name.now bodies.now) }
     {
         match self.first_named(name, names, bodies) {
             Some(body) => copy_all(self.alloc, body.types.as_slice()),
@@ -88,7 +94,9 @@ impl Sources<'_> {
 
     /// The types of the locals of each function of the file.
     fn locals_by(&self, bodies: &[Locals]) -> Result<Items<Items<CType>>, NoMemory>
-        ensures { IfOk result (λ l. l ≡ map (λ (f : Function). among.locals_named (text_at self.now.source.now self.now.tokens.now) f.name bodies.now) self.now.file.now.functions) }
+        ensures { IfOk result (λ l. l ≡ map
+            (λ (f : Function). among.locals_named
+            (text_at self.now.source.now self.now.tokens.now) f.name bodies.now) self.now.file.now.functions) }
     {
         let names = self.names_of(bodies)?;
         let mut locals = Items::new(self.alloc);
@@ -101,7 +109,9 @@ impl Sources<'_> {
 
     /// The types of the locals of a function with a body.
     fn locals_in(&self, before: &Preceding, function: &Func) -> Result<Items<CType>, NoMemory>
-        ensures { IfOk result (λ l. l ≡ checked.declared_types (checked.body_notes (text_at self.now.source.now self.now.tokens.now) self.now.file.now before.now function.now)) }
+        ensures { IfOk result (λ l. l ≡ checked.declared_types
+            (checked.body_notes (text_at self.now.source.now self.now.tokens.now) self.now.file.now before.now
+            function.now)) }
     {
         let view = View {
             alloc: self.alloc,
@@ -125,7 +135,9 @@ impl Sources<'_> {
         item: &Item,
         bodies: &mut Items<Locals>,
     ) -> Result<(), NoMemory>
-        ensures { OnOk result (bodies.new ≡ bodies.old ++ among.bodies_in (text_at self.now.source.now self.now.tokens.now) self.now.file.now before.now (item.now ∷ [])) }
+        ensures { OnOk result (bodies.new ≡ bodies.old
+            ++ among.bodies_in (text_at self.now.source.now self.now.tokens.now) self.now.file.now before.now
+            (item.now ∷ [])) }
     {
         match item {
             Item::Func(function) => {
@@ -145,8 +157,12 @@ impl Sources<'_> {
         item: &Item,
         bodies: &mut Items<Locals>,
     ) -> Result<(), NoMemory>
-        ensures bodies { OnOk result (bodies.new ≡ bodies.old ++ among.bodies_in (text_at self.now.source.now self.now.tokens.now) self.now.file.now before.old (item.now ∷ [])) }
-        ensures before { OnOk result (before.new ≡ scopes.after_item (text_at self.now.source.now self.now.tokens.now) self.now.file.now.tags before.old item.now) }
+        ensures bodies { OnOk result (bodies.new
+            ≡ bodies.old ++ among.bodies_in (text_at self.now.source.now self.now.tokens.now) self.now.file.now
+            before.old (item.now ∷ [])) }
+        ensures before { OnOk result (before.new
+            ≡ scopes.after_item (text_at self.now.source.now self.now.tokens.now) self.now.file.now.tags before.old
+            item.now) }
     {
         self.add_body(&*before, item, bodies)?;
         pass(
@@ -161,7 +177,8 @@ impl Sources<'_> {
 
     /// The functions with a body, in order.
     fn bodies(&self, items: &[Item]) -> Result<Items<Locals>, NoMemory>
-        ensures { IfOk result (λ l. l ≡ among.bodies_in (text_at self.now.source.now self.now.tokens.now) self.now.file.now scopes.nothing_before items.now) }
+        ensures { IfOk result (λ l. l ≡ among.bodies_in
+            (text_at self.now.source.now self.now.tokens.now) self.now.file.now scopes.nothing_before items.now) }
     {
         let mut before = Preceding::nothing(self.alloc);
         let mut bodies = Items::new(self.alloc);
@@ -172,7 +189,8 @@ impl Sources<'_> {
     }
 }
 
-/// The types of the locals of each function of the file, in order of the functions: those of the first body of its name, and none where no body has it.
+/// The types of the locals of each function of the file, in order of the functions: those of the first body of its
+/// name, and none where no body has it.
 pub fn locals_of(
     alloc: Global,
     source: &[u8],
@@ -182,7 +200,9 @@ pub fn locals_of(
 ) -> Result<Items<Items<CType>>, NoMemory>
     requires few_tags { length (file.now).tags < 2 ^ 32 }
     requires few_functions { length (file.now).functions < 2 ^ 32 }
-    ensures { IfOk result (λ l. l ≡ map (λ (f : Function). checked.slots_in (text_at source.now tokens.now) file.now scopes.nothing_before f.name items.now) (file.now).functions) }
+    ensures { IfOk result (λ l. l ≡ map
+        (λ (f : Function). checked.slots_in
+        (text_at source.now tokens.now) file.now scopes.nothing_before f.name items.now) (file.now).functions) }
 {
     let names = file_names(alloc, file)?;
     let sources = Sources {

@@ -72,7 +72,9 @@ impl View<'_> {
         ty: &CType,
         notes: &mut Items<Note>,
     ) -> Result<Shape, NoMemory>
-        ensures { IfOk result (λ s. told (typing.cast_judged (text_at self.now.source.now self.now.tokens.now) (seen self.now.file.now self.now.before.now self.now.scopes.now) 0 t cast found.now ty.now notes.old) ≡ answer s notes.new) }
+        ensures { IfOk result (λ s. told (typing.cast_judged (text_at self.now.source.now self.now.tokens.now)
+            (seen self.now.file.now self.now.before.now self.now.scopes.now) 0 t cast found.now ty.now notes.old)
+            ≡ answer s notes.new) }
     {
         let alloc = self.alloc;
         let pointer = pointer_to(alloc, ty)?;
@@ -90,7 +92,8 @@ impl View<'_> {
 
     /// The type in front of `malloc`.
     fn cast_type(&self, cast: Option<TypeName>) -> Option<CType>
-        ensures { result ≡ typing.cast_type (text_at self.now.source.now self.now.tokens.now) (seen self.now.file.now self.now.before.now self.now.scopes.now) cast }
+        ensures { result ≡ typing.cast_type (text_at self.now.source.now self.now.tokens.now)
+            (seen self.now.file.now self.now.before.now self.now.scopes.now) cast }
     {
         match cast {
             Some(name) => self.type_named(name),
@@ -100,7 +103,9 @@ impl View<'_> {
 
     /// Notes the type in front of `malloc`, where its name names none.
     fn note_cast(&self, cast: Option<TypeName>, notes: &mut Items<Note>) -> Result<(), NoMemory>
-        ensures { OnOk result (notes.new ≡ notes.old ++ typing.cast_notes (text_at self.now.source.now self.now.tokens.now) (seen self.now.file.now self.now.before.now self.now.scopes.now) cast) }
+        ensures { OnOk result (notes.new ≡ notes.old
+            ++ typing.cast_notes (text_at self.now.source.now self.now.tokens.now)
+            (seen self.now.file.now self.now.before.now self.now.scopes.now) cast) }
     {
         match cast {
             Some(name) => note_unknown(&self.type_named(name), name.base, notes),
@@ -116,7 +121,9 @@ impl View<'_> {
         ty: &Option<CType>,
         notes: &mut Items<Note>,
     ) -> Result<Shape, NoMemory>
-        ensures { IfOk result (λ s. told (typing.made (text_at self.now.source.now self.now.tokens.now) (seen self.now.file.now self.now.before.now self.now.scopes.now) 0 t cast ty.now notes.old) ≡ answer s notes.new) }
+        ensures { IfOk result (λ s. told (typing.made (text_at self.now.source.now self.now.tokens.now)
+            (seen self.now.file.now self.now.before.now self.now.scopes.now) 0 t cast ty.now notes.old)
+            ≡ answer s notes.new) }
     {
         let ty = match ty {
             Some(ty) => ty,
@@ -134,7 +141,9 @@ impl View<'_> {
         made: TypeName,
         notes: &mut Items<Note>,
     ) -> Result<Shape, NoMemory>
-        ensures { IfOk result (λ s. telling.malloc_told (text_at self.now.source.now self.now.tokens.now) (seen self.now.file.now self.now.before.now self.now.scopes.now) t cast made notes.old ≡ answer s notes.new) }
+        ensures { IfOk result (λ s. telling.malloc_told (text_at self.now.source.now self.now.tokens.now)
+            (seen self.now.file.now self.now.before.now self.now.scopes.now) t cast made notes.old
+            ≡ answer s notes.new) }
     {
         let ty = self.object_type(made.base, made.stars, Items::new(self.alloc));
         self.note_cast(cast, notes)?;

@@ -117,7 +117,8 @@ impl View<'_> {
     /// The offset in cells of the field that stands there in a struct.
     fn offset_at(&self, number: u32, place: usize) -> u32
         requires { place < length (unwrap_or (slice_get self.now.file.now.structs number) []) }
-        ensures { result ≡ scopes.fields_size self.now.file.now.sizes (take place (unwrap_or (slice_get self.now.file.now.structs number) [])) }
+        ensures { result ≡ scopes.fields_size self.now.file.now.sizes
+            (take place (unwrap_or (slice_get self.now.file.now.structs number) [])) }
     {
         offset_in(self.names.offsets.as_slice(), number, place)
     }
@@ -130,8 +131,11 @@ impl View<'_> {
         number: u32,
         notes: &mut Items<Note>,
     ) -> Result<Shape, NoMemory>
-        ensures { IfOk result (λ s. told (typing.member_at (text_at self.now.source.now self.now.tokens.now) (seen self.now.file.now self.now.before.now self.now.scopes.now) 0 t name (unwrap_or (slice_get self.now.file.now.structs number) [])
-            (scopes.field_in (text_at self.now.source.now self.now.tokens.now name) (unwrap_or (slice_get self.now.file.now.structs number) [])) notes.old) ≡ answer s notes.new) }
+        ensures { IfOk result (λ s. told (typing.member_at (text_at self.now.source.now self.now.tokens.now)
+            (seen self.now.file.now self.now.before.now self.now.scopes.now) 0 t name
+            (unwrap_or (slice_get self.now.file.now.structs number) [])
+            (scopes.field_in (text_at self.now.source.now self.now.tokens.now name)
+            (unwrap_or (slice_get self.now.file.now.structs number) [])) notes.old) ≡ answer s notes.new) }
     {
         let place = match self.field_place(number, self.text(name)) {
             Some(place) => place,
@@ -154,7 +158,9 @@ impl View<'_> {
         number: Option<u32>,
         notes: &mut Items<Note>,
     ) -> Result<Shape, NoMemory>
-        ensures { IfOk result (λ s. told (typing.member (text_at self.now.source.now self.now.tokens.now) (seen self.now.file.now self.now.before.now self.now.scopes.now) 0 t name well number notes.old) ≡ answer s notes.new) }
+        ensures { IfOk result (λ s. told (typing.member (text_at self.now.source.now self.now.tokens.now)
+            (seen self.now.file.now self.now.before.now self.now.scopes.now) 0 t name well number notes.old)
+            ≡ answer s notes.new) }
     {
         match number {
             Some(number) => self.member_of(t, name, number, notes),

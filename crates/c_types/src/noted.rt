@@ -1,6 +1,7 @@
 //! What notes say of each token, gathered in one pass.
 
-ghost use Rattle.std.specs.Prelude.{◌≡◌, ◌<◌, ℕ, suc, List, ◌∷◌, length, slice_get, Some, if◌then◌else◌, nat_eq, IfOk, OnOk};
+ghost use Rattle.std.specs.Prelude.{◌≡◌, ◌<◌, ℕ, suc, List, ◌∷◌, length, slice_get, Some, if◌then◌else◌, nat_eq, IfOk};
+ghost use Rattle.std.specs.Prelude.{OnOk};
 ghost use Rattle.cc_model.specs.declared.typing.Note.{Note};
 ghost use Rattle.cc_model.specs.CheckedProgram as program;
 ghost use Rattle.c_types.specs.Noted.{nothing, entry, Tells, type_of};
@@ -12,7 +13,8 @@ use cc_model::typing::{CType, Note};
 use sqlite_items::{Items, at};
 use std::alloc::Global;
 
-/// What notes say of a token, where more than one says it the first: what a name there means, the index of the note with its type, and whether the number there stands for NULL.
+/// What notes say of a token, where more than one says it the first: what a name there means, the index of the note
+/// with its type, and whether the number there stands for NULL.
 #[derive(Clone, Copy)]
 pub struct Said {
     pub name: Option<Target>,
@@ -102,7 +104,8 @@ pub fn gather(alloc: Global, notes: &[Note]) -> Result<Items<Said>, NoMemory>
 /// What the name at each of `count` tokens means.
 pub fn names(alloc: Global, count: usize, table: &[Said]) -> Result<Items<Option<Target>>, NoMemory>
     ensures count { IfOk result (λ l. length l ≡ count) }
-    ensures names { IfOk result (λ l. (notes : List Note) → Tells 0 notes table.now → (t : ℕ) → t < count → slice_get l t ≡ Some (program.meant notes t)) }
+    ensures names { IfOk result (λ l. (notes : List Note) → Tells 0 notes table.now → (t : ℕ) → t < count
+        → slice_get l t ≡ Some (program.meant notes t)) }
 {
     let mut names = Items::new(alloc);
     for t in 0..count {

@@ -12,7 +12,8 @@ use cc_model::{Layout, Sig, Ty};
 use sqlite_items::Items;
 use std::alloc::Global;
 
-/// The types of a program by their numbers: each type and its cells, and the numbers of the types of expressions, functions and globals.
+/// The types of a program by their numbers: each type and its cells, and the numbers of the types of expressions,
+/// functions and globals.
 #[derive(Drop)]
 pub struct Numbering {
     pub tys: Items<Ty>,

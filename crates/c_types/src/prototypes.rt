@@ -19,7 +19,9 @@ use sqlite_items::Items;
 impl View<'_> {
     /// Whether an earlier parameter has the name, or it is that of a typedef.
     fn is_earlier_name(&self, name: u32, earlier: &NameIndex) -> bool
-        ensures { result ≡ (scopes.has_name ((text_at self.now.source.now self.now.tokens.now) name) earlier.now || scopes.is_alias self.now.before.now ((text_at self.now.source.now self.now.tokens.now) name)) }
+        ensures { result ≡ (scopes.has_name
+            ((text_at self.now.source.now self.now.tokens.now) name) earlier.now || scopes.is_alias self.now.before.now
+            ((text_at self.now.source.now self.now.tokens.now) name)) }
     {
         earlier.has(self.text(name)) || self.is_alias(name)
     }
@@ -32,8 +34,16 @@ impl View<'_> {
         earlier: &NameIndex,
         notes: &mut Items<Note>,
     ) -> Result<(), NoMemory>
-        ensures { OnOk result (notes.new ≡ notes.old ++ (typing.unknown_if_none (scopes.param_type (text_at self.now.source.now self.now.tokens.now) self.now.file.now.tags self.now.before.now param.ty) (param.ty).base
-            ++ (faults.no_struct (faults.proto_name (text_at self.now.source.now self.now.tokens.now) self.now.file.now t param.name) (scopes.param_type (text_at self.now.source.now self.now.tokens.now) self.now.file.now.tags self.now.before.now param.ty) ++ faults.proto_twice (text_at self.now.source.now self.now.tokens.now) self.now.file.now self.now.before.now earlier.now param.name))) }
+        ensures { OnOk result (notes.new ≡ notes.old
+            ++ (typing.unknown_if_none (scopes.param_type
+            (text_at self.now.source.now self.now.tokens.now) self.now.file.now.tags self.now.before.now param.ty)
+            (param.ty).base
+            ++ (faults.no_struct (faults.proto_name
+            (text_at self.now.source.now self.now.tokens.now) self.now.file.now t param.name)
+            (scopes.param_type (text_at self.now.source.now self.now.tokens.now) self.now.file.now.tags
+            self.now.before.now param.ty) ++ faults.proto_twice
+            (text_at self.now.source.now self.now.tokens.now) self.now.file.now self.now.before.now earlier.now
+            param.name))) }
     {
         let ty = self.param_type(param.ty);
         note_unknown(&ty, param.ty.base, notes)?;
@@ -48,7 +58,8 @@ impl View<'_> {
 
     /// The names of the parameters with one more.
     fn name_proto(&self, earlier: &mut NameIndex, name: Option<u32>) -> Result<(), NoMemory>
-        ensures { OnOk result (earlier.new ≡ faults.with_proto (text_at self.now.source.now self.now.tokens.now) self.now.file.now earlier.old name) }
+        ensures { OnOk result (earlier.new ≡ faults.with_proto
+            (text_at self.now.source.now self.now.tokens.now) self.now.file.now earlier.old name) }
     {
         let name = match name {
             Some(name) => name,
@@ -64,7 +75,9 @@ impl View<'_> {
         params: &[ProtoParam],
         notes: &mut Items<Note>,
     ) -> Result<(), NoMemory>
-        ensures { OnOk result (notes.new ≡ notes.old ++ faults.protos_notes (text_at self.now.source.now self.now.tokens.now) self.now.file.now self.now.before.now t [] params.now) }
+        ensures { OnOk result (notes.new ≡ notes.old
+            ++ faults.protos_notes (text_at self.now.source.now self.now.tokens.now) self.now.file.now
+            self.now.before.now t [] params.now) }
     {
         let mut earlier = NameIndex::new(self.alloc);
         for param in params {

@@ -64,7 +64,8 @@ fn behind(
     tags: &TagIndex,
     items: &[Item],
 ) -> Result<Preceding, NoMemory>
-    ensures { IfOk result (λ b. b ≡ scopes.after_items (text_at source.now tokens.now) tags.now scopes.nothing_before items.now) }
+    ensures { IfOk result (λ b. b ≡ scopes.after_items
+        (text_at source.now tokens.now) tags.now scopes.nothing_before items.now) }
 {
     let mut before = Preceding::nothing(alloc);
     for item in items {
@@ -81,7 +82,8 @@ fn behind_all(
     tags: &Items<Option<Text>>,
     items: &[Item],
 ) -> Result<Preceding, NoMemory>
-    ensures { IfOk result (λ b. b ≡ scopes.after_items (text_at source.now tokens.now) tags.now scopes.nothing_before items.now) }
+    ensures { IfOk result (λ b. b ≡ scopes.after_items
+        (text_at source.now tokens.now) tags.now scopes.nothing_before items.now) }
 {
     let index = tag_index(alloc, tags.as_slice())?;
     behind(alloc, source, tokens, &index, items)
@@ -103,7 +105,8 @@ fn types_by_number(
     requires well_typed { faults.WellTyped (text_at source.now tokens.now) items.now }
     requires few_tags { length (file.now).tags < 2 ^ 32 }
     requires few_functions { length (file.now).functions < 2 ^ 32 }
-    ensures { IfOk result (λ n. AreCheckedTypes (text_at source.now tokens.now) items.now (checked.expression_types (text_at source.now tokens.now) items.now) n) }
+    ensures { IfOk result (λ n. AreCheckedTypes (text_at source.now tokens.now) items.now
+        (checked.expression_types (text_at source.now tokens.now) items.now) n) }
 {
     let expressions = expression_types(alloc, items, notes, said)?;
     let declarations = declared_types(alloc, notes)?;
@@ -135,7 +138,9 @@ pub fn resolved(
     requires few_tags { length (file.now).tags < 2 ^ 32 }
     requires few_functions { length (file.now).functions < 2 ^ 32 }
     ensures program { IfOk result (λ c. c.program ≡ program) }
-    ensures checked { IfOk result (λ c. (name : scopes.Text) → IsTested (text_at source.now tokens.now) (program).items name entry → checked.IsChecked (text_at source.now tokens.now) tokens.now name c) }
+    ensures checked { IfOk result (λ c. (name : scopes.Text)
+        → IsTested (text_at source.now tokens.now) (program).items name entry
+        → checked.IsChecked (text_at source.now tokens.now) tokens.now name c) }
 {
     let said = gather(alloc, notes)?;
     let types = types_by_number(

@@ -52,7 +52,8 @@ pub fn global_numbers(
     table: &mut Table,
     globals: &[Variable],
 ) -> Result<Items<TyId>, NoMemory>
-    ensures { IfOk result (λ ns. AllNumbered table.old table.new ns (checked.known (map (λ (v : DeclaredVariable). v.ty) globals.now))) }
+    ensures { IfOk result (λ ns. AllNumbered table.old table.new ns
+        (checked.known (map (λ (v : DeclaredVariable). v.ty) globals.now))) }
 {
     let mut numbers = Items::new(alloc);
     for global in globals {

@@ -40,7 +40,8 @@ pub fn note_held(t: u32, well: bool, holds: bool, notes: &mut Items<Note>) -> Re
 
 /// Whether the place takes the value by `=`.
 fn can_assign(alloc: Global, place: &Shape, value: &Shape) -> Result<bool, NoMemory>
-    ensures { IfOk result (λ b. b ≡ (typing.is_place place.now && (faults.is_scalar (typing.type_of place.now) && typing.takes (typing.type_of place.now) value.now))) }
+    ensures { IfOk result (λ b. b ≡ (typing.is_place place.now &&
+        (faults.is_scalar (typing.type_of place.now) && typing.takes (typing.type_of place.now) value.now))) }
 {
     let ty = type_of(alloc, place)?;
     Ok(is_place(place) && (is_scalar(&ty) && takes(&ty, value)))
@@ -54,7 +55,10 @@ fn note_assigned(
     value: &Shape,
     notes: &mut Items<Note>,
 ) -> Result<(), NoMemory>
-    ensures { OnOk result (notes.new ≡ notes.old ++ (typing.rule t (typing.is_well place.now && typing.is_well value.now) (typing.is_place place.now && (faults.is_scalar (typing.type_of place.now) && typing.takes (typing.type_of place.now) value.now))
+    ensures { OnOk result (notes.new ≡ notes.old
+        ++ (typing.rule t (typing.is_well place.now && typing.is_well value.now)
+        (typing.is_place place.now && (faults.is_scalar (typing.type_of place.now) && typing.takes
+        (typing.type_of place.now) value.now))
         ++ typing.null_beside (typing.is_pointer_shape place.now) value.now)) }
 {
     let holds = can_assign(alloc, place, value)?;
@@ -72,8 +76,10 @@ impl View<'_> {
         notes: &mut Items<Note>,
     ) -> Result<(), NoMemory>
         ensures { OnOk result (notes.new ≡ notes.old ++ faults.assigned t
-            (typing.judged (text_at self.now.source.now self.now.tokens.now) (seen self.now.file.now self.now.before.now self.now.scopes.now) place.now)
-            (typing.judged (text_at self.now.source.now self.now.tokens.now) (seen self.now.file.now self.now.before.now self.now.scopes.now) value.now)) }
+            (typing.judged (text_at self.now.source.now self.now.tokens.now)
+            (seen self.now.file.now self.now.before.now self.now.scopes.now) place.now)
+            (typing.judged (text_at self.now.source.now self.now.tokens.now)
+            (seen self.now.file.now self.now.before.now self.now.scopes.now) value.now)) }
     {
         let place = self.judge(place, notes)?;
         let value = self.judge(value, notes)?;
@@ -89,8 +95,10 @@ impl View<'_> {
         notes: &mut Items<Note>,
     ) -> Result<(), NoMemory>
         ensures { OnOk result (notes.new ≡ notes.old ++ faults.updated t
-            (typing.judged (text_at self.now.source.now self.now.tokens.now) (seen self.now.file.now self.now.before.now self.now.scopes.now) place.now)
-            (typing.judged (text_at self.now.source.now self.now.tokens.now) (seen self.now.file.now self.now.before.now self.now.scopes.now) value.now)) }
+            (typing.judged (text_at self.now.source.now self.now.tokens.now)
+            (seen self.now.file.now self.now.before.now self.now.scopes.now) place.now)
+            (typing.judged (text_at self.now.source.now self.now.tokens.now)
+            (seen self.now.file.now self.now.before.now self.now.scopes.now) value.now)) }
     {
         let place = self.judge(place, notes)?;
         let value = self.judge(value, notes)?;
@@ -101,7 +109,9 @@ impl View<'_> {
 
     /// `++`, `--` and `CREST_int` on an int's place.
     pub fn bump(&self, t: u32, place: &Expr, notes: &mut Items<Note>) -> Result<(), NoMemory>
-        ensures { OnOk result (notes.new ≡ notes.old ++ faults.bumped t (typing.judged (text_at self.now.source.now self.now.tokens.now) (seen self.now.file.now self.now.before.now self.now.scopes.now) place.now)) }
+        ensures { OnOk result (notes.new ≡ notes.old
+            ++ faults.bumped t (typing.judged (text_at self.now.source.now self.now.tokens.now)
+            (seen self.now.file.now self.now.before.now self.now.scopes.now) place.now)) }
     {
         let place = self.judge(place, notes)?;
         note_held(t, is_well(&place), is_int_place(&place), notes)
@@ -109,7 +119,9 @@ impl View<'_> {
 
     /// A truth value, at the word of its statement.
     pub fn test(&self, t: u32, value: &Expr, notes: &mut Items<Note>) -> Result<(), NoMemory>
-        ensures { OnOk result (notes.new ≡ notes.old ++ faults.tested t (typing.judged (text_at self.now.source.now self.now.tokens.now) (seen self.now.file.now self.now.before.now self.now.scopes.now) value.now)) }
+        ensures { OnOk result (notes.new ≡ notes.old
+            ++ faults.tested t (typing.judged (text_at self.now.source.now self.now.tokens.now)
+            (seen self.now.file.now self.now.before.now self.now.scopes.now) value.now)) }
     {
         let value = self.judge(value, notes)?;
         note_held(t, is_well(&value), has_truth(&value), notes)
@@ -117,8 +129,10 @@ impl View<'_> {
 
     /// A call whose value nobody wants, behind its arguments.
     fn call_done(&self, t: u32, args: &[Operand], notes: &mut Items<Note>) -> Result<(), NoMemory>
-        ensures { OnOk result (notes.new ≡ typing.call_done (text_at self.now.source.now self.now.tokens.now) (seen self.now.file.now self.now.before.now self.now.scopes.now) t args.now
-            (typing.callee (text_at self.now.source.now self.now.tokens.now) (seen self.now.file.now self.now.before.now self.now.scopes.now) t) notes.old) }
+        ensures { OnOk result (notes.new ≡ typing.call_done (text_at self.now.source.now self.now.tokens.now)
+            (seen self.now.file.now self.now.before.now self.now.scopes.now) t args.now
+            (typing.callee (text_at self.now.source.now self.now.tokens.now)
+            (seen self.now.file.now self.now.before.now self.now.scopes.now) t) notes.old) }
     {
         let number = match self.callee(t) {
             Some(number) => number,
@@ -137,8 +151,15 @@ impl View<'_> {
 
     /// A call whose value nobody wants.
     fn call_statement(&self, t: u32, args: &[Expr], notes: &mut Items<Note>) -> Result<(), NoMemory>
-        ensures { OnOk result (notes.new ≡ notes.old ++ typing.call_done (text_at self.now.source.now self.now.tokens.now) (seen self.now.file.now self.now.before.now self.now.scopes.now) t (map typing.operand_of (map (typing.judged (text_at self.now.source.now self.now.tokens.now) (seen self.now.file.now self.now.before.now self.now.scopes.now)) args.now))
-            (typing.callee (text_at self.now.source.now self.now.tokens.now) (seen self.now.file.now self.now.before.now self.now.scopes.now) t) (typing.notes_of (map (typing.judged (text_at self.now.source.now self.now.tokens.now) (seen self.now.file.now self.now.before.now self.now.scopes.now)) args.now))) }
+        ensures { OnOk result (notes.new ≡ notes.old
+            ++ typing.call_done (text_at self.now.source.now self.now.tokens.now)
+            (seen self.now.file.now self.now.before.now self.now.scopes.now) t
+            (map typing.operand_of (map (typing.judged (text_at self.now.source.now self.now.tokens.now)
+            (seen self.now.file.now self.now.before.now self.now.scopes.now)) args.now))
+            (typing.callee (text_at self.now.source.now self.now.tokens.now)
+            (seen self.now.file.now self.now.before.now self.now.scopes.now) t)
+            (typing.notes_of (map (typing.judged (text_at self.now.source.now self.now.tokens.now)
+            (seen self.now.file.now self.now.before.now self.now.scopes.now)) args.now))) }
     {
         let args = self.judge_args(args, notes)?;
         self.call_done(t, args.as_slice(), notes)
@@ -146,7 +167,10 @@ impl View<'_> {
 
     /// A statement without its `;`.
     pub fn simple(&self, s: &Simple, notes: &mut Items<Note>) -> Result<(), NoMemory>
-        ensures { OnOk result (notes.new ≡ notes.old ++ faults.simple_notes (typing.judged (text_at self.now.source.now self.now.tokens.now)) (text_at self.now.source.now self.now.tokens.now) self.now.file.now self.now.before.now None s.now (here self.now.scopes.now)) }
+        ensures { OnOk result (notes.new ≡ notes.old
+            ++ faults.simple_notes (typing.judged (text_at self.now.source.now self.now.tokens.now))
+            (text_at self.now.source.now self.now.tokens.now) self.now.file.now self.now.before.now None s.now
+            (here self.now.scopes.now)) }
     {
         match s {
             Simple::Assign(t, place, value) => self.assign(*t, place, value, notes),
@@ -174,7 +198,9 @@ impl View<'_> {
         value: &Expr,
         notes: &mut Items<Note>,
     ) -> Result<(), NoMemory>
-        ensures { OnOk result (notes.new ≡ notes.old ++ faults.taken t ty.now (typing.judged (text_at self.now.source.now self.now.tokens.now) (seen self.now.file.now self.now.before.now self.now.scopes.now) value.now)) }
+        ensures { OnOk result (notes.new ≡ notes.old
+            ++ faults.taken t ty.now (typing.judged (text_at self.now.source.now self.now.tokens.now)
+            (seen self.now.file.now self.now.before.now self.now.scopes.now) value.now)) }
     {
         let value = self.judge(value, notes)?;
         note_held(t, is_well(&value), takes(ty, &value), notes)?;
@@ -183,7 +209,11 @@ impl View<'_> {
 
     /// A value behind the `return` of a function that gives none.
     fn refuse(&self, t: u32, value: &Expr, notes: &mut Items<Note>) -> Result<(), NoMemory>
-        ensures { OnOk result (notes.new ≡ notes.old ++ ((typing.judged (text_at self.now.source.now self.now.tokens.now) (seen self.now.file.now self.now.before.now self.now.scopes.now) value.now).notes ++ typing.rule t (typing.is_well (typing.judged (text_at self.now.source.now self.now.tokens.now) (seen self.now.file.now self.now.before.now self.now.scopes.now) value.now).shape) false)) }
+        ensures { OnOk result (notes.new ≡ notes.old
+            ++ ((typing.judged (text_at self.now.source.now self.now.tokens.now)
+            (seen self.now.file.now self.now.before.now self.now.scopes.now) value.now).notes
+            ++ typing.rule t (typing.is_well (typing.judged (text_at self.now.source.now self.now.tokens.now)
+            (seen self.now.file.now self.now.before.now self.now.scopes.now) value.now).shape) false)) }
     {
         let value = self.judge(value, notes)?;
         note_held(t, is_well(&value), false, notes)
@@ -191,7 +221,9 @@ impl View<'_> {
 
     /// A value of which nothing is asked.
     fn accept(&self, value: &Expr, notes: &mut Items<Note>) -> Result<(), NoMemory>
-        ensures { OnOk result (notes.new ≡ notes.old ++ (typing.judged (text_at self.now.source.now self.now.tokens.now) (seen self.now.file.now self.now.before.now self.now.scopes.now) value.now).notes) }
+        ensures { OnOk result (notes.new ≡ notes.old
+            ++ (typing.judged (text_at self.now.source.now self.now.tokens.now)
+            (seen self.now.file.now self.now.before.now self.now.scopes.now) value.now).notes) }
     {
         self.judge(value, notes)?;
         Ok(())
@@ -205,7 +237,10 @@ impl View<'_> {
         value: &Expr,
         notes: &mut Items<Note>,
     ) -> Result<(), NoMemory>
-        ensures { OnOk result (notes.new ≡ notes.old ++ faults.returned_value t gives.now (typing.judged (text_at self.now.source.now self.now.tokens.now) (seen self.now.file.now self.now.before.now self.now.scopes.now) value.now)) }
+        ensures { OnOk result (notes.new ≡ notes.old
+            ++ faults.returned_value t gives.now
+            (typing.judged (text_at self.now.source.now self.now.tokens.now)
+            (seen self.now.file.now self.now.before.now self.now.scopes.now) value.now)) }
     {
         match gives {
             Some(ty) => {
@@ -227,7 +262,10 @@ impl View<'_> {
         value: &Option<Expr>,
         notes: &mut Items<Note>,
     ) -> Result<(), NoMemory>
-        ensures { OnOk result (notes.new ≡ notes.old ++ faults.return_notes (typing.judged (text_at self.now.source.now self.now.tokens.now)) (text_at self.now.source.now self.now.tokens.now) self.now.file.now self.now.before.now gives.now t value.now (here self.now.scopes.now)) }
+        ensures { OnOk result (notes.new ≡ notes.old
+            ++ faults.return_notes (typing.judged (text_at self.now.source.now self.now.tokens.now))
+            (text_at self.now.source.now self.now.tokens.now) self.now.file.now self.now.before.now gives.now t
+            value.now (here self.now.scopes.now)) }
     {
         match value {
             Some(value) => self.return_value(t, gives, value, notes),
@@ -243,7 +281,9 @@ impl View<'_> {
         value: &Expr,
         notes: &mut Items<Note>,
     ) -> Result<(), NoMemory>
-        ensures { OnOk result (notes.new ≡ notes.old ++ faults.stored t ty.now (typing.judged (text_at self.now.source.now self.now.tokens.now) (seen self.now.file.now self.now.before.now self.now.scopes.now) value.now)) }
+        ensures { OnOk result (notes.new ≡ notes.old
+            ++ faults.stored t ty.now (typing.judged (text_at self.now.source.now self.now.tokens.now)
+            (seen self.now.file.now self.now.before.now self.now.scopes.now) value.now)) }
     {
         let value = self.judge(value, notes)?;
         note_held(
@@ -262,7 +302,10 @@ impl View<'_> {
         ty: &Option<CType>,
         notes: &mut Items<Note>,
     ) -> Result<(), NoMemory>
-        ensures { OnOk result (notes.new ≡ notes.old ++ faults.start_notes (typing.judged (text_at self.now.source.now self.now.tokens.now)) (text_at self.now.source.now self.now.tokens.now) self.now.file.now self.now.before.now None start.now ty.now (here self.now.scopes.now)) }
+        ensures { OnOk result (notes.new ≡ notes.old
+            ++ faults.start_notes (typing.judged (text_at self.now.source.now self.now.tokens.now))
+            (text_at self.now.source.now self.now.tokens.now) self.now.file.now self.now.before.now None start.now
+            ty.now (here self.now.scopes.now)) }
     {
         let start = match start {
             Some(start) => start,

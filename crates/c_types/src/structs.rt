@@ -48,7 +48,8 @@ fn note_struct_size(
     size: u32,
     notes: &mut Items<Note>,
 ) -> Result<(), NoMemory>
-    ensures { OnOk result (notes.new ≡ notes.old ++ (if faulty then [] else (if nat_lt 256 size then FaultNote TooLargeHere t ∷ [] else []))) }
+    ensures { OnOk result (notes.new ≡ notes.old
+        ++ (if faulty then [] else (if nat_lt 256 size then FaultNote TooLargeHere t ∷ [] else []))) }
 {
     if !faulty && size > 256 {
         notes.push(Note::Fault(Wrong::TooLarge, t))?;
@@ -69,7 +70,8 @@ fn name_of_struct(tag: Option<u32>, name: u32) -> u32
 impl View<'_> {
     /// Whether an earlier field has the name.
     fn is_field(&self, name: u32, earlier: &Named<Member>) -> bool
-        ensures { result ≡ is_some (scopes.field_in ((text_at self.now.source.now self.now.tokens.now) name) earlier.now) }
+        ensures { result ≡ is_some (scopes.field_in
+            ((text_at self.now.source.now self.now.tokens.now) name) earlier.now) }
     {
         match earlier.find(self.text(name)) {
             Some(_) => true,
@@ -88,7 +90,9 @@ impl View<'_> {
         notes: &mut Items<Note>,
     ) -> Result<(), NoMemory>
         requires sized { size ≡ scopes.fields_size self.now.file.now.sizes earlier.now }
-        ensures { OnOk result (notes.new ≡ notes.old ++ faults.field_notes (text_at self.now.source.now self.now.tokens.now) self.now.file.now self.now.before.now earlier.now base declarator.now ty.now) }
+        ensures { OnOk result (notes.new ≡ notes.old
+            ++ faults.field_notes (text_at self.now.source.now self.now.tokens.now) self.now.file.now
+            self.now.before.now earlier.now base declarator.now ty.now) }
     {
         let sizes = self.file.sizes.as_slice();
         note_unknown(ty, base, notes)?;
@@ -113,8 +117,14 @@ impl View<'_> {
     ) -> Result<(), NoMemory>
         requires sized { size.old ≡ scopes.fields_size self.now.file.now.sizes earlier.old }
         ensures sized { OnOk result (size.new ≡ scopes.fields_size self.now.file.now.sizes earlier.new) }
-        ensures notes { OnOk result (notes.new ≡ notes.old ++ faults.field_notes (text_at self.now.source.now self.now.tokens.now) self.now.file.now self.now.before.now earlier.old base declarator.now (scopes.declared_type (text_at self.now.source.now self.now.tokens.now) self.now.file.now.tags self.now.before.now base declarator.now)) }
-        ensures member { OnOk result (earlier.new ≡ earlier.old ++ scopes.field_of (text_at self.now.source.now self.now.tokens.now) self.now.file.now.tags self.now.before.now base declarator.now ∷ []) }
+        ensures notes { OnOk result (notes.new
+            ≡ notes.old ++ faults.field_notes (text_at self.now.source.now self.now.tokens.now) self.now.file.now
+            self.now.before.now earlier.old base declarator.now
+            (scopes.declared_type (text_at self.now.source.now self.now.tokens.now) self.now.file.now.tags
+            self.now.before.now base declarator.now)) }
+        ensures member { OnOk result (earlier.new
+            ≡ earlier.old ++ scopes.field_of (text_at self.now.source.now self.now.tokens.now) self.now.file.now.tags
+            self.now.before.now base declarator.now ∷ []) }
     {
         let name = Items::from_slice(self.alloc, self.text(declarator.name))?;
         let ty = self.declared_type(base, declarator)?;
@@ -135,8 +145,14 @@ impl View<'_> {
     ) -> Result<(), NoMemory>
         requires sized { size.old ≡ scopes.fields_size self.now.file.now.sizes earlier.old }
         ensures sized { OnOk result (size.new ≡ scopes.fields_size self.now.file.now.sizes earlier.new) }
-        ensures notes { OnOk result ((rest : List DeclaredMember → List DeclaredNote) → notes.new ++ rest earlier.new ≡ notes.old ++ faults.line_notes (text_at self.now.source.now self.now.tokens.now) self.now.file.now self.now.before.now earlier.old base parts.now rest) }
-        ensures members { OnOk result (earlier.new ≡ earlier.old ++ map (scopes.field_of (text_at self.now.source.now self.now.tokens.now) self.now.file.now.tags self.now.before.now base) parts.now) }
+        ensures notes { OnOk result ((rest : List DeclaredMember → List DeclaredNote)
+            → notes.new ++ rest earlier.new ≡ notes.old
+            ++ faults.line_notes (text_at self.now.source.now self.now.tokens.now) self.now.file.now
+            self.now.before.now earlier.old base parts.now rest) }
+        ensures members { OnOk result (earlier.new
+            ≡ earlier.old ++ map (scopes.field_of
+            (text_at self.now.source.now self.now.tokens.now) self.now.file.now.tags self.now.before.now base)
+            parts.now) }
     {
         for declarator in parts {
             self.field(base, declarator, earlier, size, notes)?;
@@ -146,8 +162,12 @@ impl View<'_> {
 
     /// The fields of a struct, line by line, and the size of all of them.
     fn lines(&self, lines: &[Field], notes: &mut Items<Note>) -> Result<u32, NoMemory>
-        ensures notes { OnOk result (notes.new ≡ notes.old ++ faults.lines_notes (text_at self.now.source.now self.now.tokens.now) self.now.file.now self.now.before.now lines.now []) }
-        ensures size { IfOk result (λ n. n ≡ scopes.fields_size self.now.file.now.sizes (scopes.fields_of (text_at self.now.source.now self.now.tokens.now) self.now.file.now.tags self.now.before.now lines.now)) }
+        ensures notes { OnOk result (notes.new
+            ≡ notes.old ++ faults.lines_notes (text_at self.now.source.now self.now.tokens.now) self.now.file.now
+            self.now.before.now lines.now []) }
+        ensures size { IfOk result (λ n. n ≡ scopes.fields_size self.now.file.now.sizes
+            (scopes.fields_of (text_at self.now.source.now self.now.tokens.now) self.now.file.now.tags
+            self.now.before.now lines.now)) }
     {
         let mut members = Named::new(self.alloc);
         let mut size = 0;
@@ -165,7 +185,9 @@ impl View<'_> {
 
     /// The fields of a struct and its size, which is judged at token `t`.
     pub fn fields(&self, t: u32, lines: &[Field], notes: &mut Items<Note>) -> Result<(), NoMemory>
-        ensures { OnOk result (notes.new ≡ notes.old ++ faults.fields_notes (text_at self.now.source.now self.now.tokens.now) self.now.file.now t self.now.before.now lines.now) }
+        ensures { OnOk result (notes.new ≡ notes.old
+            ++ faults.fields_notes (text_at self.now.source.now self.now.tokens.now) self.now.file.now t
+            self.now.before.now lines.now) }
     {
         let mut said = Items::new(self.alloc);
         let size = self.lines(lines, &mut said)?;
@@ -176,14 +198,16 @@ impl View<'_> {
 
     /// The number of the struct of a tag.
     pub fn tag_of(&self, tag: u32) -> Option<u32>
-        ensures { result ≡ scopes.tag_in ((text_at self.now.source.now self.now.tokens.now) tag) self.now.file.now.tags }
+        ensures { result ≡ scopes.tag_in ((text_at self.now.source.now self.now.tokens.now) tag)
+            self.now.file.now.tags }
     {
         self.type_names().tag(tag)
     }
 
     /// Whether the struct of that number is defined before.
     fn is_earlier(&self, number: Option<u32>) -> bool
-        ensures { result ≡ faults.is_earlier (text_at self.now.source.now self.now.tokens.now) self.now.file.now self.now.before.now number }
+        ensures { result ≡ faults.is_earlier
+            (text_at self.now.source.now self.now.tokens.now) self.now.file.now self.now.before.now number }
     {
         match number {
             Some(number) => number < self.before.structs(),
@@ -193,7 +217,9 @@ impl View<'_> {
 
     /// Notes a tag that is defined once more.
     fn note_tag(&self, tag: Option<u32>, notes: &mut Items<Note>) -> Result<(), NoMemory>
-        ensures { OnOk result (notes.new ≡ notes.old ++ faults.tag_notes (text_at self.now.source.now self.now.tokens.now) self.now.file.now self.now.before.now tag) }
+        ensures { OnOk result (notes.new ≡ notes.old
+            ++ faults.tag_notes (text_at self.now.source.now self.now.tokens.now) self.now.file.now self.now.before.now
+            tag) }
     {
         match tag {
             Some(tag) => note_twice(self.is_earlier(self.tag_of(tag)), tag, notes),
@@ -203,7 +229,10 @@ impl View<'_> {
 
     /// The definition of a struct.
     pub fn struct_def(&self, def: &StructDef, notes: &mut Items<Note>) -> Result<(), NoMemory>
-        ensures { OnOk result (notes.new ≡ notes.old ++ faults.item_notes (text_at self.now.source.now self.now.tokens.now) self.now.file.now (faults.part_of (text_at self.now.source.now self.now.tokens.now) self.now.file.now) self.now.before.now (item.Struct def.now)) }
+        ensures { OnOk result (notes.new ≡ notes.old
+            ++ faults.item_notes (text_at self.now.source.now self.now.tokens.now) self.now.file.now
+            (faults.part_of (text_at self.now.source.now self.now.tokens.now) self.now.file.now) self.now.before.now
+            (item.Struct def.now)) }
     {
         match def {
             StructDef::Tagged(tag, lines) => {

@@ -97,7 +97,8 @@ impl TypeNames<'_> {
 
     /// What the name of a typedef means.
     fn alias(&self, before: &Preceding, t: u32) -> Option<BaseType>
-        ensures { result ≡ option_and_then (λ (a : TypeAlias). option_map Struct a.number) (scopes.alias_in (text_at self.now.source.now self.now.tokens.now t) before.now.aliases) }
+        ensures { result ≡ option_and_then (λ (a : TypeAlias). option_map Struct a.number)
+            (scopes.alias_in (text_at self.now.source.now self.now.tokens.now t) before.now.aliases) }
     {
         let name = token_text(self.source, self.tokens, t);
         match before.alias(name) {
@@ -108,7 +109,8 @@ impl TypeNames<'_> {
 
     /// What the name of a type means.
     fn base_named(&self, before: &Preceding, base: Base) -> Option<BaseType>
-        ensures { result ≡ scopes.base_named (text_at self.now.source.now self.now.tokens.now) self.now.tags.now before.now base }
+        ensures { result ≡ scopes.base_named
+            (text_at self.now.source.now self.now.tokens.now) self.now.tags.now before.now base }
     {
         match base {
             Base::Int => Some(BaseType::Int),
@@ -119,7 +121,8 @@ impl TypeNames<'_> {
 
     /// The type that a name and stars say.
     pub fn type_named(&self, before: &Preceding, name: TypeName) -> Option<CType>
-        ensures { result ≡ scopes.type_named (text_at self.now.source.now self.now.tokens.now) self.now.tags.now before.now name }
+        ensures { result ≡ scopes.type_named
+            (text_at self.now.source.now self.now.tokens.now) self.now.tags.now before.now name }
     {
         match self.base_named(before, name.base) {
             Some(base) => Some(CType {
@@ -133,7 +136,8 @@ impl TypeNames<'_> {
 
     /// Whether a type's struct is defined before.
     fn is_complete(&self, before: &Preceding, stars: u32, base: BaseType) -> bool
-        ensures { result ≡ scopes.is_complete (text_at self.now.source.now self.now.tokens.now) self.now.tags.now before.now stars base }
+        ensures { result ≡ scopes.is_complete
+            (text_at self.now.source.now self.now.tokens.now) self.now.tags.now before.now stars base }
     {
         if stars > 0 {
             return true;
@@ -152,7 +156,8 @@ impl TypeNames<'_> {
         stars: u32,
         lengths: Items<u32>,
     ) -> Option<CType>
-        ensures { result ≡ scopes.object_type (text_at self.now.source.now self.now.tokens.now) self.now.tags.now before.now base stars lengths }
+        ensures { result ≡ scopes.object_type
+            (text_at self.now.source.now self.now.tokens.now) self.now.tags.now before.now base stars lengths }
     {
         let base = match self.base_named(before, base) {
             Some(base) => base,
@@ -175,7 +180,8 @@ impl TypeNames<'_> {
         base: Base,
         declarator: &Declarator,
     ) -> Result<Option<CType>, NoMemory>
-        ensures { IfOk result (λ t. t ≡ scopes.declared_type (text_at self.now.source.now self.now.tokens.now) self.now.tags.now before.now base declarator.now) }
+        ensures { IfOk result (λ t. t ≡ scopes.declared_type
+            (text_at self.now.source.now self.now.tokens.now) self.now.tags.now before.now base declarator.now) }
     {
         let lengths = lengths_of(self.alloc, declarator.lengths.as_slice())?;
         Ok(self.object_type(before, base, declarator.stars, lengths))
@@ -183,7 +189,8 @@ impl TypeNames<'_> {
 
     /// The type of a result.
     pub fn result_type(&self, before: &Preceding, gives: ResultType) -> Option<CType>
-        ensures { result ≡ scopes.result_type (text_at self.now.source.now self.now.tokens.now) self.now.tags.now before.now gives }
+        ensures { result ≡ scopes.result_type
+            (text_at self.now.source.now self.now.tokens.now) self.now.tags.now before.now gives }
     {
         match gives {
             ResultType::Void => Some(void_type(self.alloc)),
@@ -193,7 +200,8 @@ impl TypeNames<'_> {
 
     /// The type of a parameter.
     pub fn param_type(&self, before: &Preceding, name: TypeName) -> Option<CType>
-        ensures { result ≡ scopes.param_type (text_at self.now.source.now self.now.tokens.now) self.now.tags.now before.now name }
+        ensures { result ≡ scopes.param_type
+            (text_at self.now.source.now self.now.tokens.now) self.now.tags.now before.now name }
     {
         self.object_type(before, name.base, name.stars, Items::new(self.alloc))
     }

@@ -21,7 +21,8 @@ use cc_model::typing::{CType, File, Function, Variable};
 use sqlite_items::Items;
 use std::alloc::Global;
 
-/// A place of a file: its source and tokens, what the file declares, what stands before the place, and the variables of each scope around, the innermost scope last.
+/// A place of a file: its source and tokens, what the file declares, what stands before the place, and the variables of
+/// each scope around, the innermost scope last.
 #[derive(Clone, Copy)]
 pub struct View<'a> {
     pub alloc: Global,
@@ -51,7 +52,9 @@ impl View<'_> {
 
     /// The variable that a name means.
     pub fn variable(&self, t: u32) -> Option<&Variable>
-        ensures { option_copied result ≡ scopes.variable_named (seen self.now.file.now self.now.before.now self.now.scopes.now) (text_at self.now.source.now self.now.tokens.now t) }
+        ensures { option_copied result ≡ scopes.variable_named
+            (seen self.now.file.now self.now.before.now self.now.scopes.now)
+            (text_at self.now.source.now self.now.tokens.now t) }
     {
         let name = self.text(t);
         match variable_in_scopes(name, self.scopes) {
@@ -80,7 +83,8 @@ impl View<'_> {
 
     /// The function with a body that a name means.
     pub fn callee(&self, t: u32) -> Option<u32>
-        ensures { result ≡ typing.callee (text_at self.now.source.now self.now.tokens.now) (seen self.now.file.now self.now.before.now self.now.scopes.now) t }
+        ensures { result ≡ typing.callee (text_at self.now.source.now self.now.tokens.now)
+            (seen self.now.file.now self.now.before.now self.now.scopes.now) t }
     {
         let name = self.text(t);
         if !self.names.bodies.has(name) {
@@ -108,14 +112,17 @@ impl View<'_> {
 
     /// The type that a name and stars say.
     pub fn type_named(&self, name: TypeName) -> Option<CType>
-        ensures { result ≡ scopes.type_named (text_at self.now.source.now self.now.tokens.now) self.now.file.now.tags self.now.before.now name }
+        ensures { result ≡ scopes.type_named
+            (text_at self.now.source.now self.now.tokens.now) self.now.file.now.tags self.now.before.now name }
     {
         self.type_names().type_named(self.before, name)
     }
 
     /// The type of an object: a struct has to be defined before.
     pub fn object_type(&self, base: Base, stars: u32, lengths: Items<u32>) -> Option<CType>
-        ensures { result ≡ scopes.object_type (text_at self.now.source.now self.now.tokens.now) self.now.file.now.tags self.now.before.now base stars lengths }
+        ensures { result ≡ scopes.object_type
+            (text_at self.now.source.now self.now.tokens.now) self.now.file.now.tags self.now.before.now base stars
+            lengths }
     {
         self.type_names()
             .object_type(self.before, base, stars, lengths)
@@ -127,7 +134,9 @@ impl View<'_> {
         base: Base,
         declarator: &Declarator,
     ) -> Result<Option<CType>, NoMemory>
-        ensures { IfOk result (λ t. t ≡ scopes.declared_type (text_at self.now.source.now self.now.tokens.now) self.now.file.now.tags self.now.before.now base declarator.now) }
+        ensures { IfOk result (λ t. t ≡ scopes.declared_type
+            (text_at self.now.source.now self.now.tokens.now) self.now.file.now.tags self.now.before.now base
+            declarator.now) }
     {
         self.type_names()
             .declared_type(self.before, base, declarator)
@@ -135,20 +144,23 @@ impl View<'_> {
 
     /// The type of a result.
     pub fn result_type(&self, gives: ResultType) -> Option<CType>
-        ensures { result ≡ scopes.result_type (text_at self.now.source.now self.now.tokens.now) self.now.file.now.tags self.now.before.now gives }
+        ensures { result ≡ scopes.result_type
+            (text_at self.now.source.now self.now.tokens.now) self.now.file.now.tags self.now.before.now gives }
     {
         self.type_names().result_type(self.before, gives)
     }
 
     /// The type of a parameter.
     pub fn param_type(&self, name: TypeName) -> Option<CType>
-        ensures { result ≡ scopes.param_type (text_at self.now.source.now self.now.tokens.now) self.now.file.now.tags self.now.before.now name }
+        ensures { result ≡ scopes.param_type
+            (text_at self.now.source.now self.now.tokens.now) self.now.file.now.tags self.now.before.now name }
     {
         self.type_names().param_type(self.before, name)
     }
     /// A function with a body, as it is declared there.
     pub fn function_of(&self, function: &Func) -> Result<Function, NoMemory>
-        ensures { IfOk result (λ f. f ≡ faults.function_of (text_at self.now.source.now self.now.tokens.now) self.now.file.now self.now.before.now function.now) }
+        ensures { IfOk result (λ f. f ≡ faults.function_of
+            (text_at self.now.source.now self.now.tokens.now) self.now.file.now self.now.before.now function.now) }
     {
         self.type_names().function_of(self.before, function)
     }
@@ -160,7 +172,9 @@ impl View<'_> {
         name: u32,
         params: &[ProtoParam],
     ) -> Result<Function, NoMemory>
-        ensures { IfOk result (λ f. f ≡ faults.prototype_of (text_at self.now.source.now self.now.tokens.now) self.now.file.now self.now.before.now gives name params.now) }
+        ensures { IfOk result (λ f. f ≡ faults.prototype_of
+            (text_at self.now.source.now self.now.tokens.now) self.now.file.now self.now.before.now gives name
+            params.now) }
     {
         self.type_names()
             .prototype_of(self.before, gives, name, params)

@@ -26,7 +26,13 @@ impl Model for Bounds {
 
     ghost view = { λ b. record { lo = b.lo; hi = b.hi; depth = b.depth; objects = b.objects; steps = b.steps } };
 
-    ghost invariant = { λ b. InRange (record { lo = b.lo; hi = b.hi; depth = b.depth; objects = b.objects; steps = b.steps }) };
+    ghost invariant = { λ b. InRange (record {
+      lo = b.lo;
+      hi = b.hi;
+      depth = b.depth;
+      objects = b.objects;
+      steps = b.steps;
+    }) };
 
     ghost inverse = { λ v. record { lo = v.lo; hi = v.hi; depth = v.depth; objects = v.objects; steps = v.steps } };
 }
@@ -34,9 +40,11 @@ impl Model for Bounds {
 impl Bounds {
     /// The bounds with these numbers; None exactly where `lo` is above `hi` or a number is outside its range.
     pub fn new(lo: i32, hi: i32, depth: u32, objects: u8, steps: u32) -> Option<Bounds>
-        ensures some { IfSome result (λ b. b ≡ record { lo = lo; hi = hi; depth = depth; objects = objects; steps = steps }) }
+        ensures some { IfSome result (λ b. b
+            ≡ record { lo = lo; hi = hi; depth = depth; objects = objects; steps = steps }) }
         ensures in_range { IfSome result InRange }
-        ensures none { IfNone result (InRange (record { lo = lo; hi = hi; depth = depth; objects = objects; steps = steps }) → ⊥) }
+        ensures none { IfNone result (InRange
+            (record { lo = lo; hi = hi; depth = depth; objects = objects; steps = steps }) → ⊥) }
     {
         let fits = lo <= hi
             && depth >= 1

@@ -19,7 +19,8 @@ pub enum Outcome {
     False,
     /// `T`: a decision is true.
     True,
-    /// `a` to `z`: the input object with this rank, from 0, in the order in which the run first accessed them. At most 25 in a path.
+    /// `a` to `z`: the input object with this rank, from 0, in the order in which the run first accessed them. At most
+    /// 25 in a path.
     Object(u8),
 }
 

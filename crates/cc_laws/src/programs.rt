@@ -13,5 +13,6 @@ ghost use Rattle.cc_model.specs.Graphs.{PointsToCells};
 /// In a checked program each type that a pointer cell of the parameters or of a type points to has a cell.
 pub fn a_checked_program_points_to_cells()
     ensures { (text : ℕ → Text) (tokens : List Token) (entry : Text) (c : Checked) (fits : ℕ → ℕ → Bool)
-        → IsChecked text tokens entry c → Reads fits tokens c.program → PointsToCells (core_of c).layouts (params_of (core_of c)) }
+        → IsChecked text tokens entry c → Reads fits tokens c.program
+        → PointsToCells (core_of c).layouts (params_of (core_of c)) }
 {}

@@ -70,7 +70,8 @@ pub struct Checked {
     pub tys: Items<Ty>,
     /// A type's cells, for each type; none for `Void`.
     pub layouts: Items<Layout>,
-    /// The type of each expression, in order of first token and then from the outside in; `Void` for `NULL`, and for a number 0 that stands for it.
+    /// The type of each expression, in order of first token and then from the outside in; `Void` for `NULL`, and for a
+    /// number 0 that stands for it.
     pub expr_tys: Items<TyId>,
     /// What each token names, where it names a variable, a function or a field.
     pub names: Items<Option<Target>>,

@@ -71,7 +71,8 @@ pub enum Punct {
     Decrease,
 }
 
-/// A word with a meaning of its own: the words that the grammar uses, then the other keywords of C11, which no rule uses.
+/// A word with a meaning of its own: the words that the grammar uses, then the other keywords of C11, which no rule
+/// uses.
 #[derive(Clone, Copy)]
 pub enum Keyword {
     Int,

@@ -1,10 +1,12 @@
 //! The trees of the grammar, one variant for each alternative. Parentheses leave no node.
 //!
-//! A `u32` is a token's index: that of a name, an operator, the `=` of an initialiser, the `[` of an index, or the word of a statement. A number has its value beside it.
+//! A `u32` is a token's index: that of a name, an operator, the `=` of an initialiser, the `[` of an index, or the word
+//! of a statement. A number has its value beside it.
 
 use sqlite_items::{Boxed, Items};
 
-/// An expression. The first index is that of its first token, the outermost `(` where it stands in parentheses; the second that of its operator, name, number or word.
+/// An expression. The first index is that of its first token, the outermost `(` where it stands in parentheses; the
+/// second that of its operator, name, number or word.
 #[derive(Drop)]
 pub enum Expr {
     Or(u32, u32, Boxed<Expr>, Boxed<Expr>),

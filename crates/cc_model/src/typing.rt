@@ -14,7 +14,8 @@ pub enum BaseType {
     Struct(u32),
 }
 
-/// A type: its base, the number of stars behind it, and the lengths of the arrays that are made of these, the outermost first. No pointer leads to an array.
+/// A type: its base, the number of stars behind it, and the lengths of the arrays that are made of these, the outermost
+/// first. No pointer leads to an array.
 #[derive(Drop)]
 pub struct CType {
     pub base: BaseType,
@@ -96,7 +97,8 @@ pub struct Function {
     pub params: Items<Option<CType>>,
 }
 
-/// What the file's scope has before a place, in order: typedef names, how many structs are defined, globals, functions, and functions with a body.
+/// What the file's scope has before a place, in order: typedef names, how many structs are defined, globals, functions,
+/// and functions with a body.
 #[derive(Drop)]
 pub struct Before {
     pub aliases: Items<Alias>,
@@ -106,7 +108,8 @@ pub struct Before {
     pub bodies: Items<Text>,
 }
 
-/// What is visible in the whole file: the structs in order of definition, with their tags, fields and sizes; the functions in order of first declaration, and those that have a body.
+/// What is visible in the whole file: the structs in order of definition, with their tags, fields and sizes; the
+/// functions in order of first declaration, and those that have a body.
 #[derive(Drop)]
 pub struct File {
     pub tags: Items<Option<Text>>,

@@ -1,5 +1,6 @@
 // Files in memory.
-ghost use Rattle.std.specs.Prelude.{◌≡◌, ◌≢◌, ℕ, ◌+◌, ◌^◌, ◌<◌, ◌≤◌, ◌⊎◌, ◌↔◌, [], List, Option, None, Some, OnOk, OnErr, IfOk, IsErrOf, length, vec_len};
+ghost use Rattle.std.specs.Prelude.{◌≡◌, ◌≢◌, ℕ, ◌+◌, ◌^◌, ◌<◌, ◌≤◌, ◌⊎◌, ◌↔◌, [], List, Option, None, Some, OnOk};
+ghost use Rattle.std.specs.Prelude.{OnErr, IfOk, IsErrOf, length, vec_len};
 ghost use Rattle.cc_outside.specs.Faults.{counted_up};
 ghost use Rattle.cc_outside.specs.Held.{file_of};
 ghost use Rattle.cc_outside.specs.Endings.{EndsBy};

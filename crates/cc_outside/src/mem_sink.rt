@@ -1,5 +1,6 @@
 // A sink in memory.
-ghost use Rattle.std.specs.Prelude.{◌≡◌, ℕ, ◌+◌, ◌^◌, ◌<◌, ◌≤◌, ◌⊎◌, ◌↔◌, ◌++◌, [], List, Option, None, Some, is_some, OnOk, IsErrOf, take};
+ghost use Rattle.std.specs.Prelude.{◌≡◌, ℕ, ◌+◌, ◌^◌, ◌<◌, ◌≤◌, ◌⊎◌, ◌↔◌, ◌++◌, [], List, Option, None, Some, is_some};
+ghost use Rattle.std.specs.Prelude.{OnOk, IsErrOf, take};
 ghost use Rattle.cc_outside.specs.Faults.{Rose, counted_up};
 ghost use Rattle.cc_outside.specs.Prefix.{IsFirstPart};
 ghost use Rattle.cc_outside.specs.Told.{appended};

@@ -1,5 +1,6 @@
 // Files of the file system.
-ghost use Rattle.std.specs.Prelude.{◌≡◌, ◌≢◌, ◌↔◌, ◌⊎◌, ℕ, ◌^◌, ◌<◌, ◌≤◌, None, IfOk, IfErr, IfSome, IsErrOf, length, take, vec_len};
+ghost use Rattle.std.specs.Prelude.{◌≡◌, ◌≢◌, ◌↔◌, ◌⊎◌, ℕ, ◌^◌, ◌<◌, ◌≤◌, None, IfOk, IfErr, IfSome, IsErrOf, length};
+ghost use Rattle.std.specs.Prelude.{take, vec_len};
 ghost use Rattle.std.specs.IoError.{error_kind};
 ghost use Rattle.cc_outside.specs.Faults.{Rose};
 ghost use Rattle.cc_outside.specs.Endings.{EndsBy};

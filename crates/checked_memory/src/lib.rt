@@ -4,7 +4,8 @@
 mod places;
 mod values;
 
-ghost use Rattle.std.specs.Prelude.{◌≡◌, ◌≢◌, ◌<◌, ◌≤◌, ◌^◌, ◌++◌, ◌∷◌, [], length, slice_get, map, Some, IfOk, OnErr, MatchOption, IsSome};
+ghost use Rattle.std.specs.Prelude.{◌≡◌, ◌≢◌, ◌<◌, ◌≤◌, ◌^◌, ◌++◌, ◌∷◌, [], length, slice_get, map, Some, IfOk, OnErr};
+ghost use Rattle.std.specs.Prelude.{MatchOption, IsSome};
 ghost use Rattle.cc_base.specs.Paths.{Pairwise};
 ghost use Rattle.checked_memory.specs.declared.values.Value.{Value};
 ghost use Rattle.checked_memory.specs.Contents.{IsTouched, address_of, cell_at, with_cell};
@@ -70,7 +71,8 @@ impl Memory {
         requires fresh { ¬ IsTouched address self.old.touched }
         requires few { length self.old.touched < 26 }
         ensures rank { IfOk result (λ r. r ≡ length self.old.touched) }
-        ensures touched { IfOk result (λ _. self.new ≡ record self.old { touched = self.old.touched ++ record { address = address; cells = cells.now } ∷ [] }) }
+        ensures touched { IfOk result (λ _. self.new
+            ≡ record self.old { touched = self.old.touched ++ record { address = address; cells = cells.now } ∷ [] }) }
         ensures err { OnErr result (self.new ≡ self.old) }
     {
         let rank = self.touched;
@@ -91,7 +93,8 @@ impl Memory {
 
     /// The rank of the block at an address; None exactly where it isn't touched.
     pub fn rank_of(&self, address: i64) -> Option<u8>
-        ensures { MatchOption result (¬ IsTouched address self.now.touched) (λ r. slice_get (map address_of self.now.touched) r ≡ Some address) }
+        ensures { MatchOption result (¬ IsTouched address self.now.touched)
+            (λ r. slice_get (map address_of self.now.touched) r ≡ Some address) }
     {
         let found = block_at(&self.objects, self.latest, self.touched, address)?;
         Some(found.rank)

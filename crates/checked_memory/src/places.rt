@@ -2,7 +2,8 @@
 
 ghost use Rattle.std.specs.Prelude.{◌≡◌, ◌<◌, None, length, slice_get, MatchOption, IsSome};
 ghost use Rattle.checked_memory.specs.Contents.{IsTouched, cell_at};
-ghost use Rattle.checked_memory.specs.Entries.{entries, touched_of, made_of, contents, IsLinked, IsBlock, IsMade, IsPlace};
+ghost use Rattle.checked_memory.specs.Entries.{entries, touched_of, made_of, contents, IsLinked, IsBlock, IsMade};
+ghost use Rattle.checked_memory.specs.Entries.{IsPlace};
 
 use crate::values::{Cell, Value};
 
@@ -47,7 +48,8 @@ pub(crate) fn block_at(
 ) -> Option<Ranked>
     requires linked { IsLinked (entries objects.now) latest }
     requires counted { touched ≡ length (touched_of (entries objects.now)) }
-    ensures { MatchOption result (¬ IsTouched address (touched_of (entries objects.now))) (λ b. IsBlock (entries objects.now) address b.object b.rank) }
+    ensures { MatchOption result (¬ IsTouched address (touched_of (entries objects.now)))
+        (λ b. IsBlock (entries objects.now) address b.object b.rank) }
 {
     let mut at = latest;
     let mut rank = touched;
@@ -108,7 +110,8 @@ pub(crate) fn place_of(objects: &[Object], latest: Link, touched: u8, at: Value)
 pub(crate) fn place_in(objects: &[Object], latest: Link, touched: u8, at: Value) -> Option<Place>
     requires linked { IsLinked (entries objects.now) latest }
     requires counted { touched ≡ length (touched_of (entries objects.now)) }
-    ensures { MatchOption result (cell_at at (contents (entries objects.now)) ≡ None) (λ p. IsPlace at (entries objects.now) p.object p.cell) }
+    ensures { MatchOption result (cell_at at (contents (entries objects.now)) ≡ None)
+        (λ p. IsPlace at (entries objects.now) p.object p.cell) }
 {
     match at {
         Value::Made(number, offset) => {

@@ -1,8 +1,11 @@
 //! The words of a command line, and the command that they give.
 
-ghost use Rattle.std.specs.Prelude.{◌≡◌, ℕ, ◌^◌, ◌<◌, ◌≤◌, ◌≤ℤ◌, ℤ, pos, List, [], ◌∷◌, All, map, IsTrue, IfOk, IfErr, IfSome, IfNone, codes, Some, Ok, Err, take, drop, length, ◌+◌};
+ghost use Rattle.std.specs.Prelude.{◌≡◌, ℕ, ◌^◌, ◌<◌, ◌≤◌, ◌≤ℤ◌, ℤ, pos, List, [], ◌∷◌, All, map, IsTrue, IfOk, IfErr};
+ghost use Rattle.std.specs.Prelude.{IfSome, IfNone, codes, Some, Ok, Err, take, drop, length, ◌+◌};
 ghost use Rattle.std.specs.Fmt.{signed_decimal};
-ghost use Rattle.command_words.specs.Words.{texts, IsNumber, IsWide, IsPath, IsValue, Accepted, BadWord, takes_of, behind, place_behind, IsGiven, IsSeed, min_option, max_option, AreBounds, search_options, walk_options, run_options, trace_options, strategy_word};
+ghost use Rattle.command_words.specs.Words.{texts, IsNumber, IsWide, IsPath, IsValue, Accepted, BadWord, takes_of};
+ghost use Rattle.command_words.specs.Words.{behind, place_behind, IsGiven, IsSeed, min_option, max_option, AreBounds};
+ghost use Rattle.command_words.specs.Words.{search_options, walk_options, run_options, trace_options, strategy_word};
 ghost use Rattle.command_words.specs.Options.{seen, IsTable, Fits, IsBadAt};
 ghost use Rattle.cc_base.specs.Limits.{Limits};
 ghost use Rattle.cc_base.specs.Outcomes.{byte_of, HasByte};
@@ -174,8 +177,8 @@ fn value_behind<'a>(words: &'a [String], name: &str) -> Option<&'a str>
     value_behind(second.rest, name)
 }
 
-/// The number of the first word behind the name, in pairs of a name and another word, where `before` words stand before them; None
-/// where the name does not stand.
+/// The number of the first word behind the name, in pairs of a name and another word, where `before` words stand before
+/// them; None where the name does not stand.
 fn place_behind(words: &[String], name: &str, before: u32) -> Option<u32>
     requires { before + length words.now ≤ 1000 }
     ensures { result ≡ place_behind name.now before (texts words.now) }
@@ -224,8 +227,10 @@ const MAX: Range = Range {
 
 /// Whether the least number that the options give is at most the greatest.
 fn is_ordered(words: &[String]) -> bool
-    ensures yes { IsTrue result → (lo hi : ℤ) → IsGiven (texts words.now) min_option lo → IsGiven (texts words.now) max_option hi → lo ≤ℤ hi }
-    ensures no { (lo hi : ℤ) → IsGiven (texts words.now) min_option lo → IsGiven (texts words.now) max_option hi → lo ≤ℤ hi → IsTrue result }
+    ensures yes { IsTrue result → (lo hi : ℤ) → IsGiven (texts words.now) min_option lo
+        → IsGiven (texts words.now) max_option hi → lo ≤ℤ hi }
+    ensures no { (lo hi : ℤ) → IsGiven (texts words.now) min_option lo → IsGiven (texts words.now) max_option hi
+        → lo ≤ℤ hi → IsTrue result }
 {
     number_given(words, "-min", MIN) <= number_given(words, "-max", MAX)
 }
@@ -257,7 +262,8 @@ fn is_new(words: &[String], name: &str) -> bool
     }
 }
 
-/// The place, from 0, of the first bad word of the options, where those before `at` are no bad words; None where none is bad.
+/// The place, from 0, of the first bad word of the options, where those before `at` are no bad words; None where none
+/// is bad.
 fn bad_option(options: &[(&str, Takes)], words: &[String], at: usize) -> Option<usize>
     requires { at ≤ length words.now }
     ensures some { IfSome result (λ n. IsTable (seen options.now) → Fits (seen options.now) (texts (take at words.now))
@@ -434,7 +440,8 @@ struct NumberAndRest<'a> {
 
 /// The number from 1 to `high` that the first word is, and the words behind it; None where it is no such number.
 fn behind_number(words: &[String], high: i32) -> Option<NumberAndRest<'_>>
-    ensures some { IfSome result (λ r. (word : List ℕ) × (texts words.now ≡ word ∷ texts r.rest.now) × IsNumber word (pos 1) high (pos r.number)) }
+    ensures some { IfSome result (λ r. (word : List ℕ) × (texts words.now ≡ word ∷ texts r.rest.now)
+        × IsNumber word (pos 1) high (pos r.number)) }
     ensures none { IfNone result ((word : List ℕ) (rest : List (List ℕ)) (n : ℕ) → texts words.now ≡ word ∷ rest
         → IsNumber word (pos 1) high (pos n) → ⊥) }
 {
@@ -480,7 +487,8 @@ struct StrategyAndRest<'a> {
 /// The strategy that the first word is, and the words behind it; None where it is none.
 fn behind_strategy(words: &[String]) -> Option<StrategyAndRest<'_>>
     ensures some { IfSome result (λ r. texts words.now ≡ strategy_word r.strategy ∷ texts r.rest.now) }
-    ensures none { IfNone result ((s : Choosing) (rest : List (List ℕ)) → texts words.now ≡ strategy_word s ∷ rest → ⊥) }
+    ensures none { IfNone result ((s : Choosing) (rest : List (List ℕ)) → texts words.now ≡ strategy_word s ∷ rest
+        → ⊥) }
 {
     let Some(first) = first_of(words) else {
         return None;
@@ -617,12 +625,13 @@ fn read(words: &[String]) -> Result<Command, u32>
 
 /// The command that the words of a command line give, the program's name left out.
 ///
-/// The forms are `run FILE ENTRY N STRATEGY D` and `trace FILE ENTRY MAP`, with options behind them, `replay FILE ENTRY TESTS`,
-/// and `make N`. STRATEGY is `-dfs`, or one of the walks `-random`, `-uniform_random` and `-cfg`. FILE, ENTRY, MAP and TESTS are
-/// any words, N of `run` is from 1 to 1,000,000, D and N of `make` from 1 to 1,024. The options stand in any order, each at most
-/// once and each with a word behind it: `-min` and `-max` any number of 32 bits, the first at most the second, where they are not
-/// given the least and the greatest; `-objects` 1 to 25, else 8; `-steps` 1 to 1,000,000, else 100,000; for `run` also `-solver`
-/// 1 to 100,000,000, else 20,000; with `-dfs` `-after` one or more of the outcomes' bytes `! + - . F T a..z`, or `~`; with a walk
+/// The forms are `run FILE ENTRY N STRATEGY D` and `trace FILE ENTRY MAP`, with options behind them, `replay FILE ENTRY
+/// TESTS`, and `make N`. STRATEGY is `-dfs`, or one of the walks `-random`, `-uniform_random` and `-cfg`. FILE, ENTRY,
+/// MAP and TESTS are any words, N of `run` is from 1 to 1,000,000, D and N of `make` from 1 to 1,024. The options stand
+/// in any order, each at most once and each with a word behind it: `-min` and `-max` any number of 32 bits, the first
+/// at most the second, where they are not given the least and the greatest; `-objects` 1 to 25, else 8; `-steps` 1 to
+/// 1,000,000, else 100,000; for `run` also `-solver` 1 to 100,000,000, else 20,000; with `-dfs` `-after` one or more of
+/// the outcomes' bytes `! + - . F T a..z`, or `~`; with a walk
 /// `-seed` any number of 64 bits without a sign, else 0; for `trace` `-depth` 1 to 1,024, else 1,024.
 /// A number is decimal, without a plus, without leading zeros, and 0 has no minus.
 ///

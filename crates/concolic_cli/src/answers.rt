@@ -2,7 +2,8 @@
 
 ghost use Rattle.std.specs.Prelude.{◌≡◌, ◌++◌, ◌^◌, ◌<◌, ◌≤◌, IfOk, codes, true};
 ghost use Rattle.cc_outside.specs.Faults.{Rose};
-ghost use Rattle.concolic_cli.specs.Refusals.{bad_word_text, file_text, tests_text, map_text_of, map_what, what_text, refusal_line, Says, IsAnswered, wants_memory, status_of};
+ghost use Rattle.concolic_cli.specs.Refusals.{bad_word_text, file_text, tests_text, map_text_of, map_what, what_text};
+ghost use Rattle.concolic_cli.specs.Refusals.{refusal_line, Says, IsAnswered, wants_memory, status_of};
 ghost use Rattle.cc_model.specs.Report.{newline};
 ghost use Rattle.concolic_cli.specs.Sources.{source_text, no_entry_text};
 ghost use Rattle.concolic_cli.specs.Named.{names_in};
@@ -172,7 +173,8 @@ fn refuse_by_line<E: Sink>(
 ) -> Status
     requires memory { wants_memory refusal ≡ true }
     requires status { status ≡ status_of refusal }
-    ensures { IsAnswered (E.written err.old) (E.written err.new) (E.faults err.old) (E.faults err.new) (names_in named.entry) refusal result.0 }
+    ensures { IsAnswered (E.written err.old) (E.written err.new) (E.faults err.old) (E.faults err.new)
+        (names_in named.entry) refusal result.0 }
 {
     match line_of(alloc, refusal, named) {
         Ok(line) => {
@@ -188,7 +190,8 @@ fn refuse_by_line<E: Sink>(
 
 /// Says why a call is refused, and answers its status.
 pub fn refuse<E: Sink>(alloc: Global, refusal: Refusal, named: Named<'_>, err: &mut E) -> Status
-    ensures { IsAnswered (E.written err.old) (E.written err.new) (E.faults err.old) (E.faults err.new) (names_in named.entry) refusal result.0 }
+    ensures { IsAnswered (E.written err.old) (E.written err.new) (E.faults err.old) (E.faults err.new)
+        (names_in named.entry) refusal result.0 }
 {
     match refusal {
         Refusal::BadWord(word) => {

@@ -9,11 +9,13 @@ ghost use Rattle.cc_model.specs.Listing.{Enumerates};
 ghost use Rattle.cc_model.specs.Tested.{tested};
 
 /// Two lists of tests that enumerate the same paths of a program have the same paths, in one order. And of a list that
-/// enumerates all paths, the tests above a path enumerate the paths above it: so a listing that goes on after a path gives
-/// the paths that the whole listing has there.
+/// enumerates all paths, the tests above a path enumerate the paths above it: so a listing that goes on after a path
+/// gives the paths that the whole listing has there.
 pub fn listings_agree()
-    ensures agree { (p : Program) (b : Limits) (after : Option Path) (l m : List Test) → Enumerates after (tested p b) l → Enumerates after (tested p b) m
+    ensures agree { (p : Program) (b : Limits) (after : Option Path) (l m : List Test)
+        → Enumerates after (tested p b) l → Enumerates after (tested p b) m
         → map (λ (t : Test). t.path) l ≡ map (λ (t : Test). t.path) m }
     ensures resumed { (p : Program) (b : Limits) (a : Path) (l m : List Test) → Enumerates None (tested p b) l
-        → Pairwise (λ (t : Test) (u : Test). Before t.path u.path) m → ((t : Test) → In t m ↔ (In t l × Before a t.path)) → Enumerates (Some a) (tested p b) m }
+        → Pairwise (λ (t : Test) (u : Test). Before t.path u.path) m
+        → ((t : Test) → In t m ↔ (In t l × Before a t.path)) → Enumerates (Some a) (tested p b) m }
 {}

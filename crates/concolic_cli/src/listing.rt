@@ -25,8 +25,8 @@ pub fn test_line(alloc: Global, test: &Test) -> Result<Vec<u8>, NoMemory>
     Ok(line)
 }
 
-/// The last line of a listing that is not complete: how many terms there are, how many solves passed the budget, how many
-/// tests the bound on steps ended, how many runs left their prediction, and how many inputs were not run.
+/// The last line of a listing that is not complete: how many terms there are, how many solves passed the budget, how
+/// many tests the bound on steps ended, how many runs left their prediction, and how many inputs were not run.
 pub fn incomplete_line(
     alloc: Global,
     terms: u64,
@@ -35,7 +35,8 @@ pub fn incomplete_line(
     strays: u64,
     unrun: u64,
 ) -> Result<Vec<u8>, NoMemory>
-    ensures { IfOk result (λ line. line.items ≡ incomplete_line (record { terms = terms; spent = spent; steps = steps; strays = strays; unrun = unrun })) }
+    ensures { IfOk result (λ line. line.items
+        ≡ incomplete_line (record { terms = terms; spent = spent; steps = steps; strays = strays; unrun = unrun })) }
 {
     let mut number = Buffer::new();
     let mut line = Vec::from_slice(alloc, b"incomplete terms=")?;

@@ -81,8 +81,8 @@ fn searched_line(
     }
 }
 
-/// Searches the program that is made for a number of branches, with a run for each of its paths, and writes the last line of the
-/// report.
+/// Searches the program that is made for a number of branches, with a run for each of its paths, and writes the last
+/// line of the report.
 pub fn write_made<K: Sink>(alloc: Global, branches: u32, out: &mut K) -> Result<Status, Refusal>
     requires few { branches ≤ 1024 }
     requires some { 1 ≤ branches }

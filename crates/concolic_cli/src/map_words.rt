@@ -41,8 +41,10 @@ pub fn read_input(
 ) -> Result<Input, Refusal>
     ensures read { IfOk result (λ h. IsMap text.now h × IsInput (core_of checked.now) bounds.now h) }
     ensures map_refused { IfErr result (λ e. MapCause (core_of checked.now) bounds.now text.now e) }
-    ensures whole { (h : Seen) → IsMap text.now h → IsInput (core_of checked.now) bounds.now h → (result ≡ Ok h) ⊎ (result ≡ Err refusal.NoMemory) }
-    ensures refused { (f : Fault) → Refused (core_of checked.now) bounds.now text.now f → (result ≡ Err (refusal.Map f)) ⊎ (result ≡ Err refusal.NoMemory) }
+    ensures whole { (h : Seen) → IsMap text.now h → IsInput (core_of checked.now) bounds.now h
+        → (result ≡ Ok h) ⊎ (result ≡ Err refusal.NoMemory) }
+    ensures refused { (f : Fault) → Refused (core_of checked.now) bounds.now text.now f
+        → (result ≡ Err (refusal.Map f)) ⊎ (result ≡ Err refusal.NoMemory) }
 {
     match read_map(alloc, text, checked, bounds) {
         Ok(input) => Ok(input),

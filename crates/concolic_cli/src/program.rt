@@ -82,7 +82,8 @@ fn place_line(source: &[u8], tokens: &[Token], at: u32) -> u32
 fn refusal_at(source: &[u8], tokens: &[Token], fault: ParseFault) -> Refusal
     requires short { length source.now ≤ 1048576 }
     requires lexed { tokens_of source.now ≡ Ok tokens.now }
-    ensures { (entry : List ℕ) → ((tree : Program) → Accepts tokens.now tree → fault ≡ ParseFault.NoMemory) → IsNoProgram source.now entry result }
+    ensures { (entry : List ℕ) → ((tree : Program) → Accepts tokens.now tree → fault ≡ ParseFault.NoMemory)
+        → IsNoProgram source.now entry result }
 {
     match fault {
         ParseFault::Syntax(at) => Refusal::Source(place_line(source, tokens, at), Wrong::Syntax),
@@ -95,7 +96,8 @@ fn refusal_at(source: &[u8], tokens: &[Token], fault: ParseFault) -> Refusal
 fn refusal_in(source: &[u8], tokens: &[Token], fault: TypeFault) -> Refusal
     requires short { length source.now ≤ 1048576 }
     requires lexed { tokens_of source.now ≡ Ok tokens.now }
-    ensures { (tree : Program) (entry : List ℕ) → Accepts tokens.now tree → IsTypeFault (text_at source.now tokens.now) tree.items entry fault
+    ensures { (tree : Program) (entry : List ℕ) → Accepts tokens.now tree
+        → IsTypeFault (text_at source.now tokens.now) tree.items entry fault
         → IsNoProgram source.now entry result }
 {
     match fault {

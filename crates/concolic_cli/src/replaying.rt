@@ -139,8 +139,10 @@ struct LineAndStatus {
 fn replay_all(alloc: Global, compiled: &Compiled, tests: &Tests) -> Result<LineAndStatus, NoMemory>
     requires compiles { Compiles compiled.now.checked compiled.now.tac }
     requires points { PointsToCells (core_of compiled.now.checked).layouts (params_of (core_of compiled.now.checked)) }
-    requires holds { (file : List ℕ) × (length file ≤ 16777216) × IsTestsFile (core_of compiled.now.checked) file tests.now.bounds tests.now.tests tests.now.lines }
-    ensures { IfOk result (λ t. Written (core_of compiled.now.checked) tests.now.bounds (length tests.now.tests) tests.now.tests tests.now.lines t.text.items t.status) }
+    requires holds { (file : List ℕ) × (length file ≤ 16777216)
+        × IsTestsFile (core_of compiled.now.checked) file tests.now.bounds tests.now.tests tests.now.lines }
+    ensures { IfOk result (λ t. Written (core_of compiled.now.checked) tests.now.bounds
+        (length tests.now.tests) tests.now.tests tests.now.lines t.text.items t.status) }
 {
     let all = tests.tests.as_slice();
     match first_difference(alloc, compiled, all, &tests.bounds)? {
@@ -165,9 +167,12 @@ pub fn write_replay<K: Sink>(
 ) -> Result<Status, Refusal>
     requires compiles { Compiles compiled.now.checked compiled.now.tac }
     requires points { PointsToCells (core_of compiled.now.checked).layouts (params_of (core_of compiled.now.checked)) }
-    requires holds { (file : List ℕ) × (length file ≤ 16777216) × IsTestsFile (core_of compiled.now.checked) file tests.now.bounds tests.now.tests tests.now.lines }
-    ensures ok { IfOk result (λ s. WroteReplay (core_of compiled.now.checked) tests.now (K.written out.old) (K.written out.new) s.0) }
-    ensures refused { IfErr result (λ e. ReplayCause (core_of compiled.now.checked) tests.now (K.written out.old) (K.written out.new) (K.faults out.old) (K.faults out.new) e) }
+    requires holds { (file : List ℕ) × (length file ≤ 16777216)
+        × IsTestsFile (core_of compiled.now.checked) file tests.now.bounds tests.now.tests tests.now.lines }
+    ensures ok { IfOk result (λ s. WroteReplay (core_of compiled.now.checked) tests.now (K.written out.old)
+        (K.written out.new) s.0) }
+    ensures refused { IfErr result (λ e. ReplayCause (core_of compiled.now.checked) tests.now (K.written out.old)
+        (K.written out.new) (K.faults out.old) (K.faults out.new) e) }
 {
     let Ok(told) = replay_all(alloc, compiled, tests) else {
         return Err(Refusal::NoMemory);

@@ -29,7 +29,8 @@ pub fn bounds_line(alloc: Global, bounds: &Bounds) -> Result<Vec<u8>, NoMemory>
 
 /// The last line of a listing that is complete: how many tests are listed, and how many runs were made.
 pub fn complete_line(alloc: Global, paths: u64, runs: u64) -> Result<Vec<u8>, NoMemory>
-    ensures { IfOk result (λ line. line.items ≡ codes "complete paths=" ++ decimal paths ++ codes " runs=" ++ decimal runs ++ newline) }
+    ensures { IfOk result (λ line. line.items
+        ≡ codes "complete paths=" ++ decimal paths ++ codes " runs=" ++ decimal runs ++ newline) }
 {
     let mut number = Buffer::new();
     let mut line = Vec::from_slice(alloc, b"complete paths=")?;

@@ -34,9 +34,11 @@ pub fn search<K: Sink>(
     requires compiles { Compiles compiled.now.checked compiled.now.tac }
     requires points { PointsToCells (core_of compiled.now.checked).layouts (params_of (core_of compiled.now.checked)) }
     requires runs { 1 ≤ runs }
-    ensures explored { IfOk result (λ s. Explored (setting compiled.now.checked bounds.now budget) (option_map (λ r. r.now) after.entry) runs (K.written out.old) (K.written out.new) s) }
+    ensures explored { IfOk result (λ s. Explored (setting compiled.now.checked bounds.now budget)
+        (option_map (λ r. r.now) after.entry) runs (K.written out.old) (K.written out.new) s) }
     ensures laws { IfOk result (λ s. Laws (layer_of (setting compiled.now.checked bounds.now budget))) }
-    ensures some { OnErr result (ExploredSome (setting compiled.now.checked bounds.now budget) (option_map (λ r. r.now) after.entry) (K.written out.old) (K.written out.new)) }
+    ensures some { OnErr result (ExploredSome (setting compiled.now.checked bounds.now budget)
+        (option_map (λ r. r.now) after.entry) (K.written out.old) (K.written out.new)) }
     ensures cause { IfErr result (λ e. WriteCause (K.faults out.old) (K.faults out.new) e) }
     ensures never_falls { K.faults out.old ≤ K.faults out.new }
 {
@@ -69,8 +71,10 @@ pub fn write_listing<K: Sink>(
     requires compiles { Compiles compiled.now.checked compiled.now.tac }
     requires points { PointsToCells (core_of compiled.now.checked).layouts (params_of (core_of compiled.now.checked)) }
     requires runs { 1 ≤ runs }
-    ensures ok { IfOk result (λ s. WroteListing compiled.now.checked bounds.now (option_map (λ r. r.now) after.entry) (K.written out.old) (K.written out.new) runs budget s.0) }
-    ensures part { OnErr result (WroteSome compiled.now.checked bounds.now (option_map (λ r. r.now) after.entry) (K.written out.old) (K.written out.new)) }
+    ensures ok { IfOk result (λ s. WroteListing compiled.now.checked bounds.now (option_map (λ r. r.now) after.entry)
+        (K.written out.old) (K.written out.new) runs budget s.0) }
+    ensures part { OnErr result (WroteSome compiled.now.checked bounds.now (option_map (λ r. r.now) after.entry)
+        (K.written out.old) (K.written out.new)) }
     ensures cause { IfErr result (λ e. WriteCause (K.faults out.old) (K.faults out.new) e) }
 {
     let Ok(first) = bounds_line(alloc, bounds) else {

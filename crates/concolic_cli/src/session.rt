@@ -27,7 +27,8 @@ const SOURCE_LIMIT: usize = 1_048_576;
 /// Reads the file of a source.
 fn read_source<F: Files>(alloc: Global, files: &mut F, file: &str) -> Result<Vec<u8>, Refusal>
     ensures read { IfOk result (λ v. ReadAs (F.held files.old) file.now v.items) }
-    ensures file_refused { IfErr result (λ e. FileCause (F.held files.old) (F.faults files.old) (F.faults files.new) file.now e) }
+    ensures file_refused { IfErr result
+        (λ e. FileCause (F.held files.old) (F.faults files.old) (F.faults files.new) file.now e) }
     ensures never_falls { F.faults files.old ≤ F.faults files.new }
     ensures held { F.held files.new ≡ F.held files.old }
 {
@@ -46,7 +47,8 @@ const TESTS_LIMIT: usize = 16_777_216;
 /// Reads a tests file.
 fn load_tests<F: Files>(alloc: Global, files: &mut F, tests: &str) -> Result<Vec<u8>, Refusal>
     ensures read { IfOk result (λ v. ReadTests (F.held files.old) tests.now v.items) }
-    ensures refused { IfErr result (λ e. (p : Program) → TestsCause p (F.held files.old) (F.faults files.old) (F.faults files.new) tests.now e) }
+    ensures refused { IfErr result (λ e. (p : Program)
+        → TestsCause p (F.held files.old) (F.faults files.old) (F.faults files.new) tests.now e) }
     ensures held { F.held files.new ≡ F.held files.old }
     ensures never_falls { F.faults files.old ≤ F.faults files.new }
 {
@@ -59,8 +61,8 @@ fn load_tests<F: Files>(alloc: Global, files: &mut F, tests: &str) -> Result<Vec
     }
 }
 
-/// Lists the tests of the function `entry` of the source in `file`, above the path of the word `after` where there is one, and
-/// writes the report.
+/// Lists the tests of the function `entry` of the source in `file`, above the path of the word `after` where there is
+/// one, and writes the report.
 pub fn list_tests<F: Files, K: Sink>(
     alloc: Global,
     words: &RunWords,
@@ -80,7 +82,12 @@ pub fn list_tests<F: Files, K: Sink>(
       out_new = K.written out.new;
       faults_old = K.faults out.old;
       faults_new = K.faults out.new;
-    }) (record { file = file.now; entry = entry.now; work = list (words.now).bounds (words.now).runs (words.now).budget p }) result }
+    }) (record {
+      file = file.now;
+      entry = entry.now;
+      work = list (words.now).bounds (words.now).runs
+          (words.now).budget p;
+    }) result }
     ensures held { F.held files.new ≡ F.held files.old }
 {
     let Ok(path) = path_if(alloc, after) else {
@@ -106,7 +113,8 @@ pub fn list_tests<F: Files, K: Sink>(
     Ok(status)
 }
 
-/// Walks over the runs of the function `entry` of the source in `file`, by the strategy of the words, and writes the report.
+/// Walks over the runs of the function `entry` of the source in `file`, by the strategy of the words, and writes the
+/// report.
 pub fn walk_runs<F: Files, K: Sink>(
     alloc: Global,
     words: &RunWords,
@@ -125,7 +133,12 @@ pub fn walk_runs<F: Files, K: Sink>(
       out_new = K.written out.new;
       faults_old = K.faults out.old;
       faults_new = K.faults out.new;
-    }) (record { file = file.now; entry = entry.now; work = walk (words.now).strategy (words.now).bounds (words.now).runs (words.now).budget (words.now).seed }) result }
+    }) (record {
+      file = file.now;
+      entry = entry.now;
+      work = walk (words.now).strategy (words.now).bounds
+          (words.now).runs (words.now).budget (words.now).seed;
+    }) result }
     ensures held { F.held files.new ≡ F.held files.old }
 {
     let source = read_source(alloc, files, file)?;
@@ -169,8 +182,8 @@ pub fn tell_run<F: Files, K: Sink>(
     Ok(status)
 }
 
-/// Replays the tests of a file on the function `entry` of the source in `file`, and writes whether all are real, or which is the
-/// first that isn't.
+/// Replays the tests of a file on the function `entry` of the source in `file`, and writes whether all are real, or
+/// which is the first that isn't.
 pub fn replay_file<F: Files, K: Sink>(
     alloc: Global,
     tests: &str,

@@ -1,6 +1,7 @@
 //! The text of a trace, and writing it.
 
-ghost use Rattle.std.specs.Prelude.{◌≡◌, ◌≤◌, ◌<◌, ◌^◌, ◌++◌, [], ◌∷◌, IfOk, IfErr, OnOk, OnErr, All, length, map, if◌then◌else◌};
+ghost use Rattle.std.specs.Prelude.{◌≡◌, ◌≤◌, ◌<◌, ◌^◌, ◌++◌, [], ◌∷◌, IfOk, IfErr, OnOk, OnErr, All, length, map};
+ghost use Rattle.std.specs.Prelude.{if◌then◌else◌};
 ghost use Rattle.cc_base.specs.Outcomes.{HasByte, byte_of};
 ghost use Rattle.cc_model.specs.CheckedProgram.{core_of};
 ghost use Rattle.cc_model.specs.Listing.{test_item};
@@ -9,7 +10,8 @@ ghost use Rattle.cc_model.specs.Runs.{run_of, end_at};
 ghost use Rattle.cc_outside.specs.Told.{appended, WritesPart};
 ghost use Rattle.concolic_cli.specs.Session.{WriteCause};
 ghost use Rattle.concolic_cli.specs.Listings.{test_at};
-ghost use Rattle.concolic_cli.specs.TraceText.{site_text, event_text, site_at, recorded_line, recorded_lines, trace_text};
+ghost use Rattle.concolic_cli.specs.TraceText.{site_text, event_text, site_at, recorded_line, recorded_lines};
+ghost use Rattle.concolic_cli.specs.TraceText.{trace_text};
 ghost use Rattle.sym_run.specs.Traces.{ArePlain, outcome_at};
 
 use crate::answers::Status;
@@ -111,8 +113,10 @@ fn write_event<K: Sink>(
 ) -> Result<(), Refusal>
     requires { HasByte (outcome_at event.now) }
     ensures output_failed { IfErr result (λ e. WriteCause (K.faults out.old) (K.faults out.new) e) }
-    ensures ok { OnOk result (K.written out.new ≡ appended (K.written out.old) (recorded_line checked.now number event.now)) }
-    ensures part { OnErr result (WritesPart (K.written out.old) (K.written out.new) (recorded_line checked.now number event.now)) }
+    ensures ok { OnOk result (K.written out.new
+        ≡ appended (K.written out.old) (recorded_line checked.now number event.now)) }
+    ensures part { OnErr result (WritesPart (K.written out.old) (K.written out.new)
+        (recorded_line checked.now number event.now)) }
     ensures never_falls { K.faults out.old ≤ K.faults out.new }
 {
     match recorded_line(alloc, checked, number, event) {
@@ -130,8 +134,10 @@ fn write_events<K: Sink>(
 ) -> Result<(), Refusal>
     requires { All HasByte (map outcome_at events.now) }
     ensures output_failed { IfErr result (λ e. WriteCause (K.faults out.old) (K.faults out.new) e) }
-    ensures ok { OnOk result (K.written out.new ≡ appended (K.written out.old) (recorded_lines checked.now 1 events.now)) }
-    ensures part { OnErr result (WritesPart (K.written out.old) (K.written out.new) (recorded_lines checked.now 1 events.now)) }
+    ensures ok { OnOk result (K.written out.new
+        ≡ appended (K.written out.old) (recorded_lines checked.now 1 events.now)) }
+    ensures part { OnErr result (WritesPart (K.written out.old) (K.written out.new)
+        (recorded_lines checked.now 1 events.now)) }
     ensures never_falls { K.faults out.old ≤ K.faults out.new }
 {
     for (at, event) in events.iter().enumerate() {
@@ -151,7 +157,12 @@ fn copied(alloc: Global, input: &Input) -> Result<Input, NoMemory>
 
 /// The test of a trace.
 fn test_of(alloc: Global, trace: &Trace) -> Result<Test, NoMemory>
-    ensures { IfOk result (λ t. t ≡ record { path = map outcome_at (trace.now).events; end = (trace.now).end; input = (trace.now).input }) }
+    ensures { IfOk result (λ t. t ≡ record {
+      path = map outcome_at
+          (trace.now).events;
+      end = (trace.now).end;
+      input = (trace.now).input;
+    }) }
 {
     let path = trace.path(alloc)?;
     let input = copied(alloc, &trace.input)?;
@@ -165,7 +176,13 @@ fn test_of(alloc: Global, trace: &Trace) -> Result<Test, NoMemory>
 /// The line of the test of a trace.
 fn last_line(alloc: Global, trace: &Trace) -> Result<Vec<u8>, NoMemory>
     requires { All HasByte (map outcome_at (trace.now).events) }
-    ensures { IfOk result (λ line. line.items ≡ item_line (test_item (record { path = map outcome_at (trace.now).events; end = (trace.now).end; input = (trace.now).input }))) }
+    ensures { IfOk result (λ line. line.items
+        ≡ item_line (test_item (record {
+          path = map outcome_at
+              (trace.now).events;
+          end = (trace.now).end;
+          input = (trace.now).input;
+        }))) }
 {
     let test = test_of(alloc, trace)?;
     test_line(alloc, &test)
@@ -179,12 +196,16 @@ pub fn write_trace<K: Sink>(
     trace: &Trace,
     out: &mut K,
 ) -> Result<Status, Refusal>
-    requires plain { ArePlain checked.now (run_of (core_of checked.now) bounds.now (trace.now).input).log (trace.now).events }
+    requires plain { ArePlain checked.now (run_of (core_of checked.now) bounds.now (trace.now).input).log
+        (trace.now).events }
     requires end { (trace.now).end ≡ end_at (core_of checked.now) bounds.now (trace.now).input }
     requires bytes { All HasByte (map outcome_at (trace.now).events) }
-    ensures ok { OnOk result (K.written out.new ≡ appended (K.written out.old) (trace_text (core_of checked.now) bounds.now (trace.now).input)) }
-    ensures status { IfOk result (λ s. s.0 ≡ (if is_fault (end_at (core_of checked.now) bounds.now (trace.now).input) then 1 else 0)) }
-    ensures part { OnErr result (WritesPart (K.written out.old) (K.written out.new) (trace_text (core_of checked.now) bounds.now (trace.now).input)) }
+    ensures ok { OnOk result (K.written out.new
+        ≡ appended (K.written out.old) (trace_text (core_of checked.now) bounds.now (trace.now).input)) }
+    ensures status { IfOk result (λ s. s.0
+        ≡ (if is_fault (end_at (core_of checked.now) bounds.now (trace.now).input) then 1 else 0)) }
+    ensures part { OnErr result (WritesPart (K.written out.old) (K.written out.new)
+        (trace_text (core_of checked.now) bounds.now (trace.now).input)) }
     ensures cause { IfErr result (λ e. WriteCause (K.faults out.old) (K.faults out.new) e) }
     ensures never_falls { K.faults out.old ≤ K.faults out.new }
 {

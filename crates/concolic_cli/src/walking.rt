@@ -33,8 +33,12 @@ fn walk_branches<K: Sink>(
     requires compiles { Compiles compiled.now.checked compiled.now.tac }
     requires points { PointsToCells (core_of compiled.now.checked).layouts (params_of (core_of compiled.now.checked)) }
     requires runs { 1 ≤ (words.now).runs }
-    ensures walked { IfOk result (λ w. WalkedWhole (setting compiled.now.checked (words.now).bounds (words.now).budget) (λ l. WalkOf Random (setting compiled.now.checked (words.now).bounds (words.now).budget) compiled.now.tac (words.now).runs (words.now).seed false l) (K.written out.old) (K.written out.new) w) }
-    ensures part { OnErr result (WalkedPart (setting compiled.now.checked (words.now).bounds (words.now).budget) (λ l. WalkOf Random (setting compiled.now.checked (words.now).bounds (words.now).budget) compiled.now.tac (words.now).runs (words.now).seed true l) (K.written out.old) (K.written out.new)) }
+    ensures walked { IfOk result (λ w. WalkedWhole (setting compiled.now.checked (words.now).bounds (words.now).budget)
+        (λ l. WalkOf Random (setting compiled.now.checked (words.now).bounds (words.now).budget) compiled.now.tac
+        (words.now).runs (words.now).seed false l) (K.written out.old) (K.written out.new) w) }
+    ensures part { OnErr result (WalkedPart (setting compiled.now.checked (words.now).bounds (words.now).budget)
+        (λ l. WalkOf Random (setting compiled.now.checked (words.now).bounds (words.now).budget) compiled.now.tac
+        (words.now).runs (words.now).seed true l) (K.written out.old) (K.written out.new)) }
     ensures cause { IfErr result (λ e. WriteCause (K.faults out.old) (K.faults out.new) e) }
     ensures never_falls { K.faults out.old ≤ K.faults out.new }
 {
@@ -64,8 +68,14 @@ fn walk_passes<K: Sink>(
     requires compiles { Compiles compiled.now.checked compiled.now.tac }
     requires points { PointsToCells (core_of compiled.now.checked).layouts (params_of (core_of compiled.now.checked)) }
     requires runs { 1 ≤ (words.now).runs }
-    ensures walked { IfOk result (λ w. WalkedWhole (setting compiled.now.checked (words.now).bounds (words.now).budget) (λ l. WalkOf UniformRandom (setting compiled.now.checked (words.now).bounds (words.now).budget) compiled.now.tac (words.now).runs (words.now).seed false l) (K.written out.old) (K.written out.new) w) }
-    ensures part { OnErr result (WalkedPart (setting compiled.now.checked (words.now).bounds (words.now).budget) (λ l. WalkOf UniformRandom (setting compiled.now.checked (words.now).bounds (words.now).budget) compiled.now.tac (words.now).runs (words.now).seed true l) (K.written out.old) (K.written out.new)) }
+    ensures walked { IfOk result (λ w. WalkedWhole (setting compiled.now.checked (words.now).bounds (words.now).budget)
+        (λ l. WalkOf UniformRandom (setting compiled.now.checked (words.now).bounds
+        (words.now).budget) compiled.now.tac (words.now).runs (words.now).seed false l) (K.written out.old)
+        (K.written out.new) w) }
+    ensures part { OnErr result (WalkedPart (setting compiled.now.checked (words.now).bounds (words.now).budget)
+        (λ l. WalkOf UniformRandom (setting compiled.now.checked (words.now).bounds
+        (words.now).budget) compiled.now.tac (words.now).runs (words.now).seed true l) (K.written out.old)
+        (K.written out.new)) }
     ensures cause { IfErr result (λ e. WriteCause (K.faults out.old) (K.faults out.new) e) }
     ensures never_falls { K.faults out.old ≤ K.faults out.new }
 {
@@ -95,8 +105,12 @@ fn walk_flow<K: Sink>(
     requires compiles { Compiles compiled.now.checked compiled.now.tac }
     requires points { PointsToCells (core_of compiled.now.checked).layouts (params_of (core_of compiled.now.checked)) }
     requires runs { 1 ≤ (words.now).runs }
-    ensures walked { IfOk result (λ w. WalkedWhole (setting compiled.now.checked (words.now).bounds (words.now).budget) (λ l. WalkOf Cfg (setting compiled.now.checked (words.now).bounds (words.now).budget) compiled.now.tac (words.now).runs (words.now).seed false l) (K.written out.old) (K.written out.new) w) }
-    ensures part { OnErr result (WalkedPart (setting compiled.now.checked (words.now).bounds (words.now).budget) (λ l. WalkOf Cfg (setting compiled.now.checked (words.now).bounds (words.now).budget) compiled.now.tac (words.now).runs (words.now).seed true l) (K.written out.old) (K.written out.new)) }
+    ensures walked { IfOk result (λ w. WalkedWhole (setting compiled.now.checked (words.now).bounds (words.now).budget)
+        (λ l. WalkOf Cfg (setting compiled.now.checked (words.now).bounds (words.now).budget) compiled.now.tac
+        (words.now).runs (words.now).seed false l) (K.written out.old) (K.written out.new) w) }
+    ensures part { OnErr result (WalkedPart (setting compiled.now.checked (words.now).bounds (words.now).budget)
+        (λ l. WalkOf Cfg (setting compiled.now.checked (words.now).bounds (words.now).budget) compiled.now.tac
+        (words.now).runs (words.now).seed true l) (K.written out.old) (K.written out.new)) }
     ensures cause { IfErr result (λ e. WriteCause (K.faults out.old) (K.faults out.new) e) }
     ensures never_falls { K.faults out.old ≤ K.faults out.new }
 {
@@ -128,8 +142,12 @@ fn walk<K: Sink>(
     requires points { PointsToCells (core_of compiled.now.checked).layouts (params_of (core_of compiled.now.checked)) }
     requires runs { 1 ≤ (words.now).runs }
     requires walk { strategy ≡ Dfs → ⊥ }
-    ensures walked { IfOk result (λ w. WalkedWhole (setting compiled.now.checked (words.now).bounds (words.now).budget) (λ l. WalkOf strategy (setting compiled.now.checked (words.now).bounds (words.now).budget) compiled.now.tac (words.now).runs (words.now).seed false l) (K.written out.old) (K.written out.new) w) }
-    ensures part { OnErr result (WalkedPart (setting compiled.now.checked (words.now).bounds (words.now).budget) (λ l. WalkOf strategy (setting compiled.now.checked (words.now).bounds (words.now).budget) compiled.now.tac (words.now).runs (words.now).seed true l) (K.written out.old) (K.written out.new)) }
+    ensures walked { IfOk result (λ w. WalkedWhole (setting compiled.now.checked (words.now).bounds (words.now).budget)
+        (λ l. WalkOf strategy (setting compiled.now.checked (words.now).bounds (words.now).budget) compiled.now.tac
+        (words.now).runs (words.now).seed false l) (K.written out.old) (K.written out.new) w) }
+    ensures part { OnErr result (WalkedPart (setting compiled.now.checked (words.now).bounds (words.now).budget)
+        (λ l. WalkOf strategy (setting compiled.now.checked (words.now).bounds (words.now).budget) compiled.now.tac
+        (words.now).runs (words.now).seed true l) (K.written out.old) (K.written out.new)) }
     ensures cause { IfErr result (λ e. WriteCause (K.faults out.old) (K.faults out.new) e) }
     ensures never_falls { K.faults out.old ≤ K.faults out.new }
 {
@@ -141,7 +159,8 @@ fn walk<K: Sink>(
     }
 }
 
-/// The last line of the report on a walk: how many runs were made, and how many outcomes of decisions they took, of how many.
+/// The last line of the report on a walk: how many runs were made, and how many outcomes of decisions they took, of how
+/// many.
 fn ended_line(alloc: Global, summary: &WalkSummary) -> Result<Vec<u8>, NoMemory>
     ensures { IfOk result (λ line. line.items ≡ ended_line summary.now) }
 {
@@ -163,8 +182,8 @@ fn status_of(fault: bool) -> u8
     if fault { 1 } else { 0 }
 }
 
-/// Walks over the runs of a program, and writes the report, each line by a write of its own. The status is 1 where a run ends as
-/// a fault, else 0.
+/// Walks over the runs of a program, and writes the report, each line by a write of its own. The status is 1 where a
+/// run ends as a fault, else 0.
 pub fn write_walk<K: Sink>(
     alloc: Global,
     compiled: &Compiled,
@@ -175,8 +194,12 @@ pub fn write_walk<K: Sink>(
     requires points { PointsToCells (core_of compiled.now.checked).layouts (params_of (core_of compiled.now.checked)) }
     requires runs { 1 ≤ (words.now).runs }
     requires walk { (words.now).strategy ≡ Dfs → ⊥ }
-    ensures ok { IfOk result (λ s. WroteWalk compiled.now.checked compiled.now.tac (words.now).strategy (words.now).bounds (words.now).runs (words.now).budget (words.now).seed (K.written out.old) (K.written out.new) s.0) }
-    ensures part { OnErr result (WroteWalkSome compiled.now.checked compiled.now.tac (words.now).strategy (words.now).bounds (words.now).runs (words.now).budget (words.now).seed (K.written out.old) (K.written out.new)) }
+    ensures ok { IfOk result (λ s. WroteWalk compiled.now.checked compiled.now.tac (words.now).strategy
+        (words.now).bounds (words.now).runs (words.now).budget (words.now).seed (K.written out.old)
+        (K.written out.new) s.0) }
+    ensures part { OnErr result (WroteWalkSome compiled.now.checked compiled.now.tac (words.now).strategy
+        (words.now).bounds (words.now).runs (words.now).budget (words.now).seed (K.written out.old)
+        (K.written out.new)) }
     ensures cause { IfErr result (λ e. WriteCause (K.faults out.old) (K.faults out.new) e) }
 {
     let _lowest = words.bounds.lo();

@@ -40,7 +40,8 @@ pub enum Turned {
 /// atoms suffices to tell. The trace needs no alternatives of earlier events.
 ///
 /// It has the run's own numbers where none of the atoms that had to be solved names them. Two pointers are the same, or
-/// NULL, only where the atoms force it, or, for NULL, where no atom names the pointer. The rest of it is that of the base input.
+/// NULL, only where the atoms force it, or, for NULL, where no atom names the pointer. The rest of it is that of the
+/// base input.
 ///
 /// No memory, too, where 2^28 atoms or more are asked.
 pub fn turn(
@@ -57,10 +58,12 @@ pub fn turn(
     requires trace { IsTraceFrom k checked.now bounds.now (trace.now).input trace.now }
     requires lawful { Lawful (core_of checked.now) bounds.now (trace.now).input }
     requires offered { (e : PlainEvent) × (slice_get (trace.now).events k ≡ Some e) × In outcome (others_at e) }
-    ensures answer { IfOk result (λ a. AnswersAt linear (core_of checked.now) bounds.now budget (trace.now).input (turned_at (core_of checked.now) bounds.now (trace.now).input k outcome) (answer_of a)) }
+    ensures answer { IfOk result (λ a. AnswersAt linear (core_of checked.now) bounds.now budget (trace.now).input
+        (turned_at (core_of checked.now) bounds.now (trace.now).input k outcome) (answer_of a)) }
     ensures turned { IfOk result (λ a. IsTurnedIf (core_of checked.now) bounds.now (trace.now).input k outcome a) }
     ensures never { IfOk result (λ a. HasNoneIf (core_of checked.now) bounds.now (trace.now).input k outcome a) }
-    ensures keeps { IfOk result (λ a. (e : PlainEvent) → slice_get (trace.now).events k ≡ Some e → KeepsIf (core_of checked.now) bounds.now (trace.now).input k outcome e.places a) }
+    ensures keeps { IfOk result (λ a. (e : PlainEvent) → slice_get (trace.now).events k ≡ Some e
+        → KeepsIf (core_of checked.now) bounds.now (trace.now).input k outcome e.places a) }
 {
     conditions_are_exact();
     outcomes_are_exhausted();

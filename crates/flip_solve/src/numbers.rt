@@ -46,7 +46,9 @@ fn number_at(
     bounds: &Bounds,
 ) -> Option<i32>
     requires { LieWithin bounds.now places.now input.now }
-    ensures { (e : Placed) → slice_get places.now id.0 ≡ Some e → result ≡ number_for e.holds (get_or solved.now id.0 None) (at_place places.now input.now (base_of bounds.now) id.0) }
+    ensures { (e : Placed) → slice_get places.now id.0 ≡ Some e
+        → result ≡ number_for e.holds (get_or solved.now id.0 None)
+        (at_place places.now input.now (base_of bounds.now) id.0) }
 {
     let (_, ty) = places.get(id)?;
     match ty {

@@ -65,8 +65,8 @@ fn assignment(
     })
 }
 
-/// An input that meets the atoms of a condition and of an alternative, which name the first of the places; else what else
-/// is due.
+/// An input that meets the atoms of a condition and of an alternative, which name the first of the places; else what
+/// else is due.
 pub(crate) fn settle(
     alloc: Global,
     checked: &Checked,
@@ -80,8 +80,10 @@ pub(crate) fn settle(
 ) -> Result<Turned, NoMemory>
     requires few { length condition.now + length alternative.now < 2 ^ 28 }
     requires points { PointsToCells (core_of checked.now).layouts (params_of (core_of checked.now)) }
-    requires asked { IsAskedOf (core_of checked.now) bounds.now places.now count (atoms_of condition.now) (atoms_of alternative.now) input.now }
-    ensures { IfOk result (λ a. Settles (core_of checked.now) bounds.now budget places.now count (atoms_of condition.now) (atoms_of alternative.now) input.now a) }
+    requires asked { IsAskedOf (core_of checked.now) bounds.now places.now count (atoms_of condition.now)
+        (atoms_of alternative.now) input.now }
+    ensures { IfOk result (λ a. Settles (core_of checked.now) bounds.now budget places.now count
+        (atoms_of condition.now) (atoms_of alternative.now) input.now a) }
 {
     let Some(classes) = classes(alloc, count, condition, alternative)? else {
         return Ok(Turned::Never);

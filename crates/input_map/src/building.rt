@@ -2,7 +2,8 @@
 
 ghost use Rattle.std.specs.Option.{option_map};
 ghost use Rattle.cc_model.specs.Core.{ptr_cell};
-ghost use Rattle.std.specs.Prelude.{ℕ, pos, ◌≡◌, ◌+◌, ◌<◌, ◌≤◌, ◌^◌, ◌∷◌, ◌++◌, [], suc, List, None, IfOk, OnOk, length, map, take, max, slice_get};
+ghost use Rattle.std.specs.Prelude.{ℕ, pos, ◌≡◌, ◌+◌, ◌<◌, ◌≤◌, ◌^◌, ◌∷◌, ◌++◌, [], suc, List, None, IfOk, OnOk};
+ghost use Rattle.std.specs.Prelude.{length, map, take, max, slice_get};
 ghost use Rattle.std.specs.Ordering.{nat_cmp};
 ghost use Rattle.std.specs.BTreeMap.{get};
 ghost use Rattle.cc_base.specs.Limits.{Limits, base_of};
@@ -12,7 +13,9 @@ ghost use Rattle.cc_model.specs.Graphs.{PointsToCells};
 ghost use Rattle.cc_model.specs.Runs.{params_of};
 ghost use Rattle.sym_expr.specs.PlacesSeen.{place_of};
 ghost use Rattle.input_map.specs.Builds.{class_of, number_of, needs, stream_length, IsAssignment, IsBuilt};
-ghost use Rattle.input_map.specs.Laying.{Spot, plan_by, spots, key, found_in, owner_in, Puts, block_number, cell_number, at_block, block_of, spot_of, spots_of, IsIndex, IsOwner, IsStream, number_there, needs_of, Changes, Passed, Stands, Finished};
+ghost use Rattle.input_map.specs.Laying.{Spot, plan_by, spots, key, found_in, owner_in, Puts, block_number};
+ghost use Rattle.input_map.specs.Laying.{cell_number, at_block, block_of, spot_of, spots_of, IsIndex, IsOwner};
+ghost use Rattle.input_map.specs.Laying.{IsStream, number_there, needs_of, Changes, Passed, Stands, Finished};
 
 use crate::params::{layout, param_cells};
 use cc_model::Checked;
@@ -202,7 +205,8 @@ fn place_at(places: &Places, id: u32) -> Option<Place>
 
 /// Puts a place of the list at the key of its cell.
 fn index_place(found: &mut BTreeMap<u128, u32>, places: &Places, id: u32) -> Result<(), NoMemory>
-    ensures { IsIndex places.now id (found_in found.old) → OnOk result (IsIndex places.now (suc id) (found_in found.new)) }
+    ensures { IsIndex places.now id (found_in found.old)
+        → OnOk result (IsIndex places.now (suc id) (found_in found.new)) }
 {
     let Some(place) = place_at(places, id) else {
         return Ok(());
@@ -228,7 +232,8 @@ fn index_owner(
     values: &Assignment,
     place: PlaceId,
 ) -> Result<(), NoMemory>
-    ensures { (l : List PlaceId) → IsOwner values.now l (owner_in owners.old) → OnOk result (IsOwner values.now (l ++ place ∷ []) (owner_in owners.new)) }
+    ensures { (l : List PlaceId) → IsOwner values.now l (owner_in owners.old)
+        → OnOk result (IsOwner values.now (l ++ place ∷ []) (owner_in owners.new)) }
 {
     put_owner(owners, class_at(values, place.0), place.0)?;
     Ok(())
@@ -279,7 +284,9 @@ fn push_cell(
     cell: u64,
     ty: CellTy,
 ) -> Result<(), NoMemory>
-    ensures { OnOk result (spots_of due.new ≡ spots_of due.old ++ record { cell = cell_of ty; place = at_block (found_in (index.now).found) block cell } ∷ []) }
+    ensures { OnOk result (spots_of due.new
+        ≡ spots_of due.old ++ record { cell = cell_of ty; place = at_block (found_in (index.now).found) block cell }
+        ∷ []) }
 {
     let place = index.place_in(block, cell);
     due.push(Due { ty, place })?;
@@ -293,7 +300,8 @@ fn push_cells(
     block: Option<u64>,
     types: &[CellTy],
 ) -> Result<(), NoMemory>
-    ensures { OnOk result (spots_of due.new ≡ spots_of due.old ++ spots (at_block (found_in (index.now).found) block) 0 (map cell_of types.now)) }
+    ensures { OnOk result (spots_of due.new
+        ≡ spots_of due.old ++ spots (at_block (found_in (index.now).found) block) 0 (map cell_of types.now)) }
 {
     for (cell, ty) in types.iter().enumerate() {
         push_cell(due, index, block, cell as u64, *ty)?;
@@ -304,7 +312,8 @@ fn push_cells(
 impl Laying {
     /// Before the first cell.
     fn new(alloc: Global, index: &Index, params: &[CellTy]) -> Result<Laying, NoMemory>
-        ensures due { IfOk result (λ s. spots_of s.due ≡ spots (found_in (index.now).found 0) 0 (map cell_of params.now)) }
+        ensures due { IfOk result (λ s. spots_of s.due
+            ≡ spots (found_in (index.now).found 0) 0 (map cell_of params.now)) }
         ensures cells { IfOk result (λ s. s.cells ≡ []) }
         ensures blocks { IfOk result (λ s. (c : ℕ) → get nat_cmp s.blocks c ≡ None) }
     {
@@ -328,8 +337,11 @@ impl Laying {
         ensures address { IfOk result (λ n. n ≡ suc (length (self.old).due)) }
         ensures few { IfOk result (λ n. n ≤ 10 ^ 18) }
         ensures cells { OnOk result ((self.new).cells ≡ (self.old).cells) }
-        ensures due { OnOk result (spots_of (self.new).due ≡ spots_of (self.old).due ++ spots (at_block (found_in (index.now).found) (block_of (owner_in (index.now).owners class))) 0 (cells_at checked.now ty.0)) }
-        ensures blocks { OnOk result (Puts (self.old).blocks class (pos (suc (length (self.old).due))) (self.new).blocks) }
+        ensures due { OnOk result (spots_of (self.new).due
+            ≡ spots_of (self.old).due ++ spots (at_block (found_in (index.now).found)
+            (block_of (owner_in (index.now).owners class))) 0 (cells_at checked.now ty.0)) }
+        ensures blocks { OnOk result (Puts (self.old).blocks class (pos (suc (length (self.old).due)))
+            (self.new).blocks) }
     {
         if self.due.len() >= MOST {
             return Err(NoMemory);
@@ -354,7 +366,9 @@ impl Laying {
         ty: TyId,
         place: Option<u32>,
     ) -> Result<i64, NoMemory>
-        ensures { IfOk result (λ z. (b : Limits) → Changes (plan_by checked.now values.now b index.now) (record { cell = ptr_cell ty.0; place = place }) z self.old self.new) }
+        ensures { IfOk result (λ z. (b : Limits)
+            → Changes (plan_by checked.now values.now b index.now)
+            (record { cell = ptr_cell ty.0; place = place }) z self.old self.new) }
     {
         let Some(id) = place else {
             return Ok(0);
@@ -379,7 +393,8 @@ impl Laying {
         bounds: &Bounds,
         due: Due,
     ) -> Result<i64, NoMemory>
-        ensures { IfOk result (λ z. Changes (plan_by checked.now values.now bounds.now index.now) (spot_of due) z self.old self.new) }
+        ensures { IfOk result (λ z. Changes (plan_by checked.now values.now bounds.now index.now)
+            (spot_of due) z self.old self.new) }
     {
         match due.ty {
             CellTy::Int => Ok(i64::from(number_in(values, bounds, due.place))),
@@ -396,7 +411,8 @@ impl Laying {
         bounds: &Bounds,
         due: Due,
     ) -> Result<(), NoMemory>
-        ensures { OnOk result (Passed (plan_by checked.now values.now bounds.now index.now) (spot_of due) self.old self.new) }
+        ensures { OnOk result (Passed (plan_by checked.now values.now bounds.now index.now)
+            (spot_of due) self.old self.new) }
     {
         let value = self.value(checked, index, values, bounds, due)?;
         self.cells.push(value)?;
@@ -439,7 +455,8 @@ fn cells(
     values: &Assignment,
     bounds: &Bounds,
 ) -> Result<Items<i64>, NoMemory>
-    ensures { IfOk result (Finished (plan_by checked.now values.now bounds.now index.now) (spots (found_in (index.now).found 0) 0 (params_of (core_of checked.now)))) }
+    ensures { IfOk result (Finished (plan_by checked.now values.now bounds.now index.now)
+        (spots (found_in (index.now).found 0) 0 (params_of (core_of checked.now)))) }
 {
     let params = param_cells(alloc, checked)?;
     let mut laying = Laying::new(alloc, index, params.as_slice())?;
@@ -499,7 +516,8 @@ fn stream(
     bounds: &Bounds,
     end: u64,
 ) -> Result<Items<i32>, NoMemory>
-    ensures { IfOk result (IsStream (number_of values.now (base_of bounds.now)) (base_of bounds.now) (found_in (index.now).found 1) end) }
+    ensures { IfOk result (IsStream (number_of values.now (base_of bounds.now)) (base_of bounds.now)
+        (found_in (index.now).found 1) end) }
 {
     let mut numbers = Items::new(alloc);
     for number in 0..end {
@@ -529,8 +547,10 @@ pub fn built(
     values: &Assignment,
     bounds: &Bounds,
 ) -> Result<Input, NoMemory>
-    ensures { IsAssignment (core_of checked.now).layouts (params_of (core_of checked.now)) bounds.now places.now values.now
-        → PointsToCells (core_of checked.now).layouts (params_of (core_of checked.now)) → IfOk result (IsBuilt (core_of checked.now) bounds.now places.now values.now) }
+    ensures { IsAssignment (core_of checked.now).layouts
+        (params_of (core_of checked.now)) bounds.now places.now values.now
+        → PointsToCells (core_of checked.now).layouts (params_of (core_of checked.now))
+        → IfOk result (IsBuilt (core_of checked.now) bounds.now places.now values.now) }
 {
     let _lo = bounds.lo();
     let count = count_of(places, values);
@@ -542,8 +562,8 @@ pub fn built(
     Ok(Input { cells, stream })
 }
 
-/// The input in which each of the first places of the list has the assigned number, and the places of one class name one
-/// block. It is canonical, and its numbers are within the bounds.
+/// The input in which each of the first places of the list has the assigned number, and the places of one class name
+/// one block. It is canonical, and its numbers are within the bounds.
 ///
 /// An integer place without a number, and an int cell that is no place, have the base value; a pointer that is no place
 /// is NULL. The stream ends with the number of the last of these places that is one of the stream. The input has fewer
@@ -555,7 +575,8 @@ pub fn build(
     values: &Assignment,
     bounds: &Bounds,
 ) -> Result<Input, NoMemory>
-    requires assignment { IsAssignment (core_of checked.now).layouts (params_of (core_of checked.now)) bounds.now places.now values.now }
+    requires assignment { IsAssignment (core_of checked.now).layouts
+        (params_of (core_of checked.now)) bounds.now places.now values.now }
     requires cells { PointsToCells (core_of checked.now).layouts (params_of (core_of checked.now)) }
     ensures { IfOk result (IsBuilt (core_of checked.now) bounds.now places.now values.now) }
 {

@@ -2,7 +2,8 @@
 
 ghost use Rattle.cc_base.specs.Limits.{Limits};
 ghost use Rattle.cc_base.specs.declared.cells.CellTy.TheVariants as cell;
-ghost use Rattle.std.specs.Prelude.{ℕ, false, slice_get, ◌≡◌, ◌<◌, ◌≤◌, ◌+◌, ◌∷◌, ◌^◌, [], suc, List, ℤ, IfOk, OnOk, ◌⊎◌, Option, Some, None, length, map, drop};
+ghost use Rattle.std.specs.Prelude.{ℕ, false, slice_get, ◌≡◌, ◌<◌, ◌≤◌, ◌+◌, ◌∷◌, ◌^◌, [], suc, List, ℤ, IfOk, OnOk};
+ghost use Rattle.std.specs.Prelude.{◌⊎◌, Option, Some, None, length, map, drop};
 ghost use Rattle.std.specs.Ordering.{nat_cmp};
 ghost use Rattle.std.specs.BTreeSet.{contains};
 ghost use Rattle.cc_model.specs.CheckedProgram.{cell_of, cells_at};
@@ -108,7 +109,8 @@ impl Standing {
     ) -> Result<(), MapFault>
         requires { at < 2 ^ 62 }
         ensures { (b : Limits) (zs : List ℤ) (o : Option Fault) → slice_get (self.old).types at ≡ Some (cell.Ptr target)
-            → Follows (cells_at checked.now) b most at self.old (number ∷ zs) o → GoesOn (cells_at checked.now) b most at result self.new zs o }
+            → Follows (cells_at checked.now) b most at self.old (number ∷ zs) o
+            → GoesOn (cells_at checked.now) b most at result self.new zs o }
     {
         if self.has_old(target, number) {
             return Ok(());
@@ -132,7 +134,8 @@ impl Standing {
     ) -> Result<(), MapFault>
         requires { (at < 2 ^ 62) × (at < most) }
         ensures { (zs : List ℤ) (o : Option Fault)
-            → Follows (cells_at checked.now) bounds.now most at self.old (number ∷ zs) o → GoesOn (cells_at checked.now) bounds.now most at result self.new zs o }
+            → Follows (cells_at checked.now) bounds.now most at self.old (number ∷ zs) o
+            → GoesOn (cells_at checked.now) bounds.now most at result self.new zs o }
     {
         match self.types.get(at) {
             None => Err(MapFault::Long(at as i64 + 1)),
@@ -159,7 +162,8 @@ pub fn check_cells(
     params: Items<CellTy>,
     cells: &[i64],
 ) -> Result<(), MapFault>
-    ensures { Judges result (cells_fault (cells_at checked.now) bounds.now (map cell_of params) [] (suc (length (map cell_of params))) 1 cells.now) }
+    ensures { Judges result (cells_fault (cells_at checked.now) bounds.now (map cell_of params) []
+        (suc (length (map cell_of params))) 1 cells.now) }
 {
     let most = cells.len();
     let mut standing = Standing::new(alloc, params);

@@ -73,7 +73,8 @@ pub fn read_map(
     bounds: &Bounds,
 ) -> Result<Input, MapFault>
     ensures answer { Answers (core_of checked.now) bounds.now text.now result }
-    ensures read { (h : Seen) → IsMap text.now h → IsInput (core_of checked.now) bounds.now h → IsOrNoMemory result (Ok h) }
+    ensures read { (h : Seen) → IsMap text.now h → IsInput (core_of checked.now) bounds.now h
+        → IsOrNoMemory result (Ok h) }
     ensures refused { (f : Fault) → Refused (core_of checked.now) bounds.now text.now f → IsOrNoMemory result (Err f) }
 {
     read(alloc, text, checked, bounds)
@@ -82,7 +83,8 @@ pub fn read_map(
 /// An input within bounds, of fewer than 10^18 cells, has a map text, where each type that a pointer cell points to has
 /// a cell.
 pub fn an_input_has_a_map_text(bounds: &Bounds)
-    ensures { (p : Program) (h : Seen) → PointsToCells p.layouts (params_of p) → IsInput p bounds.now h → length h.cells < 10 ^ 18 → IsMap (map_text h) h }
+    ensures { (p : Program) (h : Seen) → PointsToCells p.layouts (params_of p) → IsInput p bounds.now h
+        → length h.cells < 10 ^ 18 → IsMap (map_text h) h }
 {
     let _low = bounds.lo();
     let _high = bounds.hi();

@@ -86,7 +86,8 @@ fn first_cell(cells: &[CellTy]) -> CellTy
 
 /// The type of a local of a function.
 fn slot_type(checked: &Checked, sig: &Sig, token: u32) -> TyId
-    ensures { cells_at checked.now result.0 ≡ (slot_layout checked.now (Some sig.now) (name_at checked.now token)).cells }
+    ensures { cells_at checked.now result.0
+        ≡ (slot_layout checked.now (Some sig.now) (name_at checked.now token)).cells }
 {
     let Some(Target::Local(slot)) = name(checked, token) else {
         return TyId(0);

@@ -3,7 +3,8 @@
 ghost use Rattle.std.specs.Prelude.{◌≡◌, ◌<◌, ◌^◌, IfOk, IfErr, OnOk, ◌⊎◌, Some, None, if◌then◌else◌};
 ghost use Rattle.input_map.specs.declared.faults.MapFault.TheVariants as fault;
 ghost use Rattle.input_map.specs.Maps.{IsMap};
-ghost use Rattle.input_map.specs.Reading.{mark_of, one_more, inside, signed, added, at, past, start, moved, step, at_comma, at_slash, finish, input_of, HasFewDigits, IsMalformed};
+ghost use Rattle.input_map.specs.Reading.{mark_of, one_more, inside, signed, added, at, past, start, moved, step};
+ghost use Rattle.input_map.specs.Reading.{at_comma, at_slash, finish, input_of, HasFewDigits, IsMalformed};
 ghost use Rattle.input_map.specs.declared.reading.Place.TheVariants as place;
 ghost use Rattle.input_map.specs.declared.reading.Mark.TheVariants as mark;
 

@@ -28,7 +28,8 @@ struct Words<'a> {
 /// The three words of a text: that of a path, that of an end, and another.
 fn three_words(alloc: Global, text: &[u8]) -> Result<Words<'_>, TestFault>
     ensures read { IfOk result (λ w. ThreeWords text.now w.path w.end w.map.now) }
-    ensures only { (p : Path) (e : SeenEnd) (map : List ℕ) → ThreeWords text.now p e map → IfOk result (λ w. (w.path ≡ p) × (w.end ≡ e) × (w.map.now ≡ map)) }
+    ensures only { (p : Path) (e : SeenEnd) (map : List ℕ) → ThreeWords text.now p e map
+        → IfOk result (λ w. (w.path ≡ p) × (w.end ≡ e) × (w.map.now ≡ map)) }
     ensures refused { IfErr result (λ f. WordsRefused text.now f) }
 {
     let Some(first) = cut_first(text, b' ') else {
@@ -68,8 +69,9 @@ fn fault_of(fault: MapFault) -> TestFault
     }
 }
 
-/// The test whose text this is, with an input within bounds. Form comes exactly where the text is not three words of which the
-/// first is the text of a path and the second that of an end; Map where it is, and the third is refused as a map text.
+/// The test whose text this is, with an input within bounds. Form comes exactly where the text is not three words of
+/// which the first is the text of a path and the second that of an end; Map where it is, and the third is refused as a
+/// map text.
 pub fn read_test(
     alloc: Global,
     text: &[u8],
@@ -79,8 +81,10 @@ pub fn read_test(
     ensures read { IfOk result (λ t. IsTestText (core_of checked.now) bounds.now text.now t) }
     ensures only { (t : Seen) → IsTestText (core_of checked.now) bounds.now text.now t → IsOrNoMemory result (Ok t) }
     ensures refused { IfErr result (λ f. TestRefused (core_of checked.now) bounds.now text.now f) }
-    ensures only_form { ((p : Path) (e : SeenEnd) (map : List ℕ) → ThreeWords text.now p e map → ⊥) → IsOrNoMemory result (Err fault.Form) }
-    ensures only_map { (p : Path) (e : SeenEnd) (map : List ℕ) (f : SeenFault) → ThreeWords text.now p e map → Refused (core_of checked.now) bounds.now map f → IsOrNoMemory result (Err (fault.Map f)) }
+    ensures only_form { ((p : Path) (e : SeenEnd) (map : List ℕ) → ThreeWords text.now p e map → ⊥)
+        → IsOrNoMemory result (Err fault.Form) }
+    ensures only_map { (p : Path) (e : SeenEnd) (map : List ℕ) (f : SeenFault) → ThreeWords text.now p e map
+        → Refused (core_of checked.now) bounds.now map f → IsOrNoMemory result (Err (fault.Map f)) }
 {
     let words = three_words(alloc, text)?;
     match read_map(alloc, words.map, checked, bounds) {

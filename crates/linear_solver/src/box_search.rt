@@ -1,6 +1,7 @@
 //! Trying all values of a group.
 
-ghost use Rattle.std.specs.Prelude.{◌≡◌, ◌≤◌, ◌<◌, ◌+◌, ◌-◌, ◌*◌, ◌/◌, ◌%◌, ◌^◌, ◌↔◌, IsTrue, IfOk, pos, ◌+ℤ◌, ◌-ℤ◌, ◌≤ℤ◌, drop, length};
+ghost use Rattle.std.specs.Prelude.{◌≡◌, ◌≤◌, ◌<◌, ◌+◌, ◌-◌, ◌*◌, ◌/◌, ◌%◌, ◌^◌, ◌↔◌, IsTrue, IfOk, pos, ◌+ℤ◌, ◌-ℤ◌};
+ghost use Rattle.std.specs.Prelude.{◌≤ℤ◌, drop, length};
 ghost use Rattle.linear_solver.specs.Atoms.{seen_atoms, FitAll};
 ghost use Rattle.linear_solver.specs.Box.{decoded, Searched};
 ghost use Rattle.linear_solver.specs.Seen.{at_places};

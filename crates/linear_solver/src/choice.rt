@@ -42,7 +42,8 @@ fn dark_choice(
     requires within { used ≤ budget }
     requires safe { SafeAll (seen_all list.now) }
     requires bounded { Bounded (seen_all list.now) }
-    ensures count { IfOk result (λ r. seen_tried r ≡ tried_count used budget (by_dark 0 (pass Dark n (seen_all list.now)))) }
+    ensures count { IfOk result (λ r. seen_tried r
+        ≡ tried_count used budget (by_dark 0 (pass Dark n (seen_all list.now)))) }
     ensures values { IfOk result (λ r. FoundMeets r (seen_all list.now) []) }
 {
     match pass_of(alloc, Mode::Dark, n, copy_all(alloc, list)?, used, budget)? {
@@ -126,8 +127,10 @@ pub fn tried_of(
     requires safe { SafeAll (seen_all list.now) }
     requires fit { FitAll (seen_atoms atoms.now) }
     requires bounded { BoundedWith (seen_atoms atoms.now) (seen_all list.now) }
-    ensures count { IfOk result (λ r. seen_tried r ≡ tried_count used budget (tried n (seen_all list.now) (disequalities (seen_atoms (drop from atoms.now))))) }
-    ensures values { IfOk result (λ r. FoundMeets r (seen_all list.now) (disequalities (seen_atoms (drop from atoms.now)))) }
+    ensures count { IfOk result (λ r. seen_tried r
+        ≡ tried_count used budget (tried n (seen_all list.now) (disequalities (seen_atoms (drop from atoms.now))))) }
+    ensures values { IfOk result (λ r. FoundMeets r (seen_all list.now)
+        (disequalities (seen_atoms (drop from atoms.now)))) }
 {
     if from >= atoms.len() {
         let one = one_choice_of(alloc, n, list, used, budget)?;

@@ -1,8 +1,10 @@
 //! The inequalities of a place give way to one for each pair of a lower and an upper one.
 
-ghost use Rattle.std.specs.Prelude.{◌≡◌, ◌≤◌, ◌^◌, List, [], ◌∷◌, ◌++◌, ◌+ℤ◌, ◌-ℤ◌, ◌*ℤ◌, pos, IfOk, OnOk, unsigned_abs};
+ghost use Rattle.std.specs.Prelude.{◌≡◌, ◌≤◌, ◌^◌, List, [], ◌∷◌, ◌++◌, ◌+ℤ◌, ◌-ℤ◌, ◌*ℤ◌, pos, IfOk, OnOk};
+ghost use Rattle.std.specs.Prelude.{unsigned_abs};
 ghost use Rattle.cc_base.specs.Inequality.{coefficient};
-ghost use Rattle.cc_base.specs.Pass.{pairs, others, lowers, uppers, paired, paired_with, all_paired, eliminate, below, above, dark_part};
+ghost use Rattle.cc_base.specs.Pass.{pairs, others, lowers, uppers, paired, paired_with, all_paired, eliminate, below};
+ghost use Rattle.cc_base.specs.Pass.{above, dark_part};
 ghost use Rattle.linear_solver.specs.Ordered.{Narrow, NarrowAll};
 ghost use Rattle.linear_solver.specs.Seen.{seen, seen_all};
 
@@ -81,7 +83,8 @@ fn add_pair(
     requires factor { a ≤ 2 ^ 44 }
     requires below { a ≡ below (coefficient place lower.now.terms.items) }
     requires other { Narrow (seen other.now) }
-    ensures { OnOk result (seen_all out.new.items ≡ seen_all out.old.items ++ paired_with mode place (seen lower.now) (uppers place (seen other.now ∷ []))) }
+    ensures { OnOk result (seen_all out.new.items
+        ≡ seen_all out.old.items ++ paired_with mode place (seen lower.now) (uppers place (seen other.now ∷ []))) }
 {
     match side_of(place, &other.terms) {
         Side::Upper(c) => {
@@ -107,7 +110,8 @@ fn pair_with(
     requires factor { a ≤ 2 ^ 44 }
     requires below { a ≡ below (coefficient place lower.now.terms.items) }
     requires narrow { NarrowAll (seen_all list.now) }
-    ensures { OnOk result (seen_all out.new.items ≡ seen_all out.old.items ++ paired_with mode place (seen lower.now) (uppers place (seen_all list.now))) }
+    ensures { OnOk result (seen_all out.new.items
+        ≡ seen_all out.old.items ++ paired_with mode place (seen lower.now) (uppers place (seen_all list.now))) }
 {
     for other in list {
         add_pair(alloc, out, mode, place, lower, a, other)?;
@@ -126,7 +130,9 @@ fn add_pairs(
 ) -> Result<(), AllocError>
     requires one { Narrow (seen i.now) }
     requires narrow { NarrowAll (seen_all list.now) }
-    ensures { OnOk result (seen_all out.new.items ≡ seen_all out.old.items ++ all_paired mode place (lowers place (seen i.now ∷ [])) (uppers place (seen_all list.now))) }
+    ensures { OnOk result (seen_all out.new.items
+        ≡ seen_all out.old.items ++ all_paired mode place (lowers place (seen i.now ∷ []))
+        (uppers place (seen_all list.now))) }
 {
     match side_of(place, &i.terms) {
         Side::Lower(a) => {

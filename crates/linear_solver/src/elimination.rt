@@ -109,7 +109,8 @@ pub fn elimination_of(
     requires fit { FitAll (seen_atoms atoms.now) }
     requires places { places.now ≡ places_in (seen_atoms atoms.now) }
     ensures count { IfOk result (λ r. seen_tried r ≡ tried_count 0 budget (elimination lo hi (seen_atoms atoms.now))) }
-    ensures values { IfOk result (λ r. FoundMeets r (first_list lo hi (seen_atoms atoms.now)) (disequalities (seen_atoms atoms.now))) }
+    ensures values { IfOk result (λ r. FoundMeets r (first_list lo hi (seen_atoms atoms.now))
+        (disequalities (seen_atoms atoms.now))) }
 {
     let first = first_list_of(alloc, lo, hi, atoms, places)?;
     let n = places.len();

@@ -1,10 +1,12 @@
 //! Groups of one place.
 
-ghost use Rattle.std.specs.Prelude.{◌≡◌, ◌<◌, ◌≤◌, ◌^◌, ◌↔◌, ◌⊎◌, ℕ, true, false, get_or, length, unsigned_abs, neg_ℤ, pos, negsuc, ◌+ℤ◌, ◌*ℤ◌, ◌≤ℤ◌, IfOk, IfSome, IsTrue};
+ghost use Rattle.std.specs.Prelude.{◌≡◌, ◌<◌, ◌≤◌, ◌^◌, ◌↔◌, ◌⊎◌, ℕ, true, false, get_or, length, unsigned_abs, neg_ℤ};
+ghost use Rattle.std.specs.Prelude.{pos, negsuc, ◌+ℤ◌, ◌*ℤ◌, ◌≤ℤ◌, IfOk, IfSome, IsTrue};
 ghost use Rattle.cc_base.specs.Groups.{Holds, HoldAll};
 ghost use Rattle.cc_base.specs.Witness.{changed, origin};
 ghost use Rattle.linear_solver.specs.Atoms.{seen_form, seen_atom, seen_atoms, FitForm, FitAll};
-ghost use Rattle.linear_solver.specs.Spans.{Narrows, Encloses, EnclosesAll, Counted, TriedAt, FoundAt, Only, OnlyAll, Excludes, ExcludesOnly};
+ghost use Rattle.linear_solver.specs.Spans.{Narrows, Encloses, EnclosesAll, Counted, TriedAt, FoundAt, Only, OnlyAll};
+ghost use Rattle.linear_solver.specs.Spans.{Excludes, ExcludesOnly};
 
 use crate::atoms::{LinearAtom, Sign};
 use crate::holding::hold_all;
@@ -177,7 +179,8 @@ fn mark(marks: &mut [bool], low: i128, place: u32, a: &LinearAtom)
     requires low_least { negsuc 2147483647 ≤ℤ low }
     requires low_most { low ≤ℤ pos 2147483647 }
     ensures len { length marks.new ≡ length marks.old }
-    ensures marks { (k : ℕ) → get_or marks.new k false ≡ true → (get_or marks.old k false ≡ true) ⊎ Excludes place low (seen_atom a.now) k }
+    ensures marks { (k : ℕ) → get_or marks.new k false ≡ true
+        → (get_or marks.old k false ≡ true) ⊎ Excludes place low (seen_atom a.now) k }
 {
     if let Some(far) = excluded(low, place, a, marks.len()) {
         marks[far] = true;

@@ -34,7 +34,9 @@ fn add_all(list: &mut Vec<u32>, more: &[u32]) -> Result<(), AllocError>
 
 /// Adds the places of a part, where it shares one with `p`.
 fn add_touching(list: &mut Vec<u32>, p: &[u32], part: &[u32]) -> Result<(), AllocError>
-    ensures { OnOk result (reverse list.new.items ≡ (if shares p.now part.now then put_all (reverse part.now) (reverse list.old.items) else reverse list.old.items)) }
+    ensures { OnOk result (reverse list.new.items
+        ≡ (if shares p.now part.now then put_all (reverse part.now)
+        (reverse list.old.items) else reverse list.old.items)) }
 {
     if share(p, part) {
         add_all(list, part)?;
@@ -63,7 +65,8 @@ fn behind(
     p: &[u32],
     parts: Vec<Vec<u32>>,
 ) -> Result<Vec<Vec<u32>>, AllocError>
-    ensures { IfOk result (λ r. all_backwards r.items ≡ backwards first ∷ apart (reverse p.now) (all_backwards parts.items)) }
+    ensures { IfOk result (λ r. all_backwards r.items
+        ≡ backwards first ∷ apart (reverse p.now) (all_backwards parts.items)) }
 {
     let mut rest = parts;
     let mut out = Vec::new(alloc);
@@ -85,7 +88,9 @@ fn with_atom(
     parts: Vec<Vec<u32>>,
     a: &LinearAtom,
 ) -> Result<Vec<Vec<u32>>, AllocError>
-    ensures { IfOk result (λ r. all_backwards r.items ≡ touching (named a.now.terms.items) (all_backwards parts.items) ∷ apart (named a.now.terms.items) (all_backwards parts.items)) }
+    ensures { IfOk result (λ r. all_backwards r.items
+        ≡ touching (named a.now.terms.items) (all_backwards parts.items)
+        ∷ apart (named a.now.terms.items) (all_backwards parts.items)) }
 {
     let mut p = Vec::new(alloc);
     add_named(&mut p, &a.terms)?;
@@ -138,7 +143,8 @@ fn add_atom(
     part: &[u32],
     a: &LinearAtom,
 ) -> Result<(), AllocError>
-    ensures { OnOk result (seen_atoms out.new.items ≡ seen_atoms out.old.items ++ atoms_on (reverse part.now) (seen_atom a.now ∷ [])) }
+    ensures { OnOk result (seen_atoms out.new.items
+        ≡ seen_atoms out.old.items ++ atoms_on (reverse part.now) (seen_atom a.now ∷ [])) }
 {
     if touches(&a.terms, part) {
         out.push(copy_atom(alloc, a)?)?;

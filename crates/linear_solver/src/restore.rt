@@ -1,6 +1,7 @@
 //! The values of a dark pass, found backwards.
 
-ghost use Rattle.std.specs.Prelude.{◌≡◌, ◌<◌, ◌≤◌, ◌^◌, ◌*ℤ◌, ◌≤ℤ◌, pos, negsuc, neg_ℤ, ◌<ℤ◌, unsigned_abs, IfOk, OnOk, List, vec_len};
+ghost use Rattle.std.specs.Prelude.{◌≡◌, ◌<◌, ◌≤◌, ◌^◌, ◌*ℤ◌, ◌≤ℤ◌, pos, negsuc, neg_ℤ, ◌<ℤ◌, unsigned_abs, IfOk, OnOk};
+ghost use Rattle.std.specs.Prelude.{List, vec_len};
 ghost use Rattle.cc_base.specs.Inequality.{coefficient, floor};
 ghost use Rattle.cc_base.specs.Pass.{lowers, uppers};
 ghost use Rattle.cc_base.specs.Witness.{value_for, unwound, origin, changed, left, larger, smaller};
@@ -131,7 +132,8 @@ fn most_by(z: i128, c: u128) -> i128
 /// The room with one more inequality.
 fn with_room(room: Room, place: u32, i: &Inequality, values: &[i32]) -> Room
     requires { Narrow (seen i.now) }
-    ensures { result ≡ room_step (side (coefficient place i.now.terms.items)) (left (at_places values.now) place (seen i.now)) room }
+    ensures { result ≡ room_step (side (coefficient place i.now.terms.items))
+        (left (at_places values.now) place (seen i.now)) room }
 {
     match side_of(place, &i.terms) {
         Side::Neither => room,
@@ -161,7 +163,8 @@ fn first(room: Room) -> i128
 /// The value that a list leaves a place.
 pub fn value_of(place: u32, list: &[Inequality], values: &[i32]) -> i128
     requires { NarrowAll (seen_all list.now) }
-    ensures { result ≡ value_for (at_places values.now) place (lowers place (seen_all list.now)) (uppers place (seen_all list.now)) }
+    ensures { result ≡ value_for (at_places values.now) place (lowers place (seen_all list.now))
+        (uppers place (seen_all list.now)) }
 {
     let mut room = Room {
         low: None,

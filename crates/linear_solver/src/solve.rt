@@ -57,7 +57,9 @@ fn advance(
     requires order { lo ≤ℤ hi }
     requires fit { FitAll (seen_atoms group.now) }
     requires within { All (λ x. x < vec_len progress.old.answers) part.now }
-    ensures { IfOk result (λ r. Advanced lo hi budget (reverse part.now) (seen_atoms group.now) progress.old.answers.items progress.old.spent progress.new.answers.items progress.new.spent r) }
+    ensures { IfOk result (λ r. Advanced lo hi budget (reverse part.now)
+        (seen_atoms group.now) progress.old.answers.items progress.old.spent progress.new.answers.items
+        progress.new.spent r) }
 {
     match settle(alloc, lo, hi, group, budget)? {
         GroupAnswer::Refuted => Ok(true),
@@ -85,7 +87,9 @@ fn advance_part(
     requires order { lo ≤ℤ hi }
     requires fit { FitAll (seen_atoms atoms.now) }
     requires within { All (λ x. x < vec_len progress.old.answers) part.now }
-    ensures { IfOk result (λ r. PartAdvanced lo hi budget (reverse part.now) (seen_atoms atoms.now) progress.old.answers.items progress.old.spent progress.new.answers.items progress.new.spent r) }
+    ensures { IfOk result (λ r. PartAdvanced lo hi budget (reverse part.now)
+        (seen_atoms atoms.now) progress.old.answers.items progress.old.spent progress.new.answers.items
+        progress.new.spent r) }
 {
     if part.is_empty() {
         return Ok(false);
@@ -109,8 +113,11 @@ fn settle_parts(
     requires fit { FitAll (seen_atoms atoms.now) }
     requires parts { all_backwards cut.now ≡ parts (seen_atoms atoms.now) }
     requires below { BelowAll (vec_len progress.old.answers) (seen_atoms atoms.now) }
-    requires start { Stands lo hi budget (vec_len progress.old.answers) progress.old.answers.items progress.old.spent [] [] }
-    ensures { IfOk result (λ r. Left lo hi budget (vec_len progress.old.answers) progress.new.answers.items progress.new.spent (parts (seen_atoms atoms.now)) (groups_of (parts (seen_atoms atoms.now)) (seen_atoms atoms.now)) r) }
+    requires start { Stands lo hi budget (vec_len progress.old.answers) progress.old.answers.items progress.old.spent
+        [] [] }
+    ensures { IfOk result (λ r. Left lo hi budget
+        (vec_len progress.old.answers) progress.new.answers.items progress.new.spent (parts (seen_atoms atoms.now))
+        (groups_of (parts (seen_atoms atoms.now)) (seen_atoms atoms.now)) r) }
 {
     for part in cut {
         if advance_part(alloc, lo, hi, part, atoms, budget, progress)? {
@@ -131,7 +138,9 @@ fn advance_alone(
 ) -> Result<bool, AllocError>
     requires order { lo ≤ℤ hi }
     requires fit { FitForm (seen_form a.now) }
-    ensures { IfOk result (λ r. AloneAdvanced lo hi budget (seen_atom a.now) progress.old.answers.items progress.old.spent progress.new.answers.items progress.new.spent r) }
+    ensures { IfOk result (λ r. AloneAdvanced lo hi budget
+        (seen_atom a.now) progress.old.answers.items progress.old.spent progress.new.answers.items progress.new.spent
+        r) }
 {
     if !a.terms.is_empty() {
         return Ok(false);
@@ -153,8 +162,11 @@ fn settle_alone(
 ) -> Result<bool, AllocError>
     requires order { lo ≤ℤ hi }
     requires fit { FitAll (seen_atoms atoms.now) }
-    requires start { Stands lo hi budget (vec_len progress.old.answers) progress.old.answers.items progress.old.spent (parts (seen_atoms atoms.now)) (groups_of (parts (seen_atoms atoms.now)) (seen_atoms atoms.now)) }
-    ensures { IfOk result (λ r. Left lo hi budget (vec_len progress.old.answers) progress.new.answers.items progress.new.spent (parts (seen_atoms atoms.now)) (groups (seen_atoms atoms.now)) r) }
+    requires start { Stands lo hi budget (vec_len progress.old.answers) progress.old.answers.items progress.old.spent
+        (parts (seen_atoms atoms.now)) (groups_of (parts (seen_atoms atoms.now)) (seen_atoms atoms.now)) }
+    ensures { IfOk result (λ r. Left lo hi budget
+        (vec_len progress.old.answers) progress.new.answers.items progress.new.spent (parts (seen_atoms atoms.now))
+        (groups (seen_atoms atoms.now)) r) }
 {
     for a in atoms {
         if advance_alone(alloc, lo, hi, a, budget, progress)? {
@@ -177,7 +189,8 @@ pub fn solve_linear(
 ) -> Result<Solved, NoMemory>
     requires fit { FitAll (seen_atoms atoms.now) }
     requires below { BelowAll places (seen_atoms atoms.now) }
-    ensures right { IfOk result (λ s. Right (bounds.now).lo (bounds.now).hi budget (seen_atoms atoms.now) (answer_of s)) }
+    ensures right { IfOk result (λ s. Right (bounds.now).lo (bounds.now).hi budget (seen_atoms atoms.now)
+        (answer_of s)) }
     ensures given { IfOk result (λ s. Given (bounds.now).lo (bounds.now).hi places (seen_atoms atoms.now) s) }
 {
     let lo = bounds.lo();

@@ -1,7 +1,8 @@
 //! Lists made normal: of the inequalities with equal terms the least bound is kept.
 
 ghost use Rattle.std.specs.Prelude.{◌≡◌, ◌<◌, ◌≤◌, ◌^◌, ℕ, IfOk, OnOk, IfSome, IfNone, List, [], ◌∷◌, length, vec_len};
-ghost use Rattle.cc_base.specs.Pass.{same_terms, kept, tidy, wide_term, too_wide, some_wide, is_false, some_false, with_terms, lesser};
+ghost use Rattle.cc_base.specs.Pass.{same_terms, kept, tidy, wide_term, too_wide, some_wide, is_false, some_false};
+ghost use Rattle.cc_base.specs.Pass.{with_terms, lesser};
 ghost use Rattle.linear_solver.specs.Chains.{mix, bucket, terms_at, Chained, IsChained};
 ghost use Rattle.linear_solver.specs.Ordered.{SafeAll};
 ghost use Rattle.linear_solver.specs.Seen.{seen, seen_all, with_most};
@@ -89,8 +90,10 @@ fn find(kept: &Kept, terms: &[Multiple], at_bucket: usize) -> Option<usize>
     requires chained { IsChained kept.now }
     requires bucket { at_bucket ≡ bucket (length kept.now.last.items) terms.now }
     requires bound { at_bucket < length kept.now.last.items }
-    ensures some { IfSome result (λ k. (k < length kept.now.list.items) × (terms_at (seen_all kept.now.list.items) k ≡ terms.now)) }
-    ensures none { IfNone result ((j : ℕ) → j < length kept.now.list.items → terms_at (seen_all kept.now.list.items) j ≡ terms.now → ⊥) }
+    ensures some { IfSome result (λ k. (k < length kept.now.list.items)
+        × (terms_at (seen_all kept.now.list.items) k ≡ terms.now)) }
+    ensures none { IfNone result ((j : ℕ) → j < length kept.now.list.items
+        → terms_at (seen_all kept.now.list.items) j ≡ terms.now → ⊥) }
 {
     let mut at = kept.last[at_bucket];
     'chain: while at > 0 {

@@ -4,7 +4,8 @@
 ghost use Rattle.std.specs.Prelude.{List, ◌≡◌, ◌*◌, ◌+◌, ◌<◌, ◌≤◌, [], ◌∷◌, length, IfOk, IfSome, IfNone, None};
 ghost use Rattle.cc_base.specs.declared.outcomes.Outcome.{Outcome};
 ghost use Rattle.cc_base.specs.Paths.{Ascend};
-ghost use Rattle.path_tree.specs.Branches.{unsettled, NoneOpen, IsLeast, IsOpen, IsOver, EachAscends, settled, HasRoom, with_least, IsSomeOpen, Takes};
+ghost use Rattle.path_tree.specs.Branches.{unsettled, NoneOpen, IsLeast, IsOpen, IsOver, EachAscends, settled, HasRoom};
+ghost use Rattle.path_tree.specs.Branches.{with_least, IsSomeOpen, Takes};
 
 use cc_base::{NoMemory, Outcome};
 use std::alloc::Global;
@@ -109,7 +110,8 @@ impl Tree {
     pub fn settle(&mut self, outcome: Outcome)
         requires { IsOpen outcome self.old.levels }
         ensures settled { self.new ≡ record self.old { levels = settled outcome self.old.levels } }
-        ensures least { (os : List Outcome) (rest : List (List Outcome)) → self.old.levels ≡ (outcome ∷ os) ∷ rest → self.new.levels ≡ os ∷ rest }
+        ensures least { (os : List Outcome) (rest : List (List Outcome)) → self.old.levels ≡ (outcome ∷ os) ∷ rest
+            → self.new.levels ≡ os ∷ rest }
     {
         let least = self.take_least();
         if least != outcome {

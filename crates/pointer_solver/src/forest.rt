@@ -1,6 +1,7 @@
 //! Trees of the nodes of sides: union by rank, and find with path halving.
 
-ghost use Rattle.std.specs.Prelude.{◌≡◌, ◌≢◌, ◌<◌, ◌≤◌, ◌+◌, ◌-◌, ◌^◌, ◌↔◌, ℕ, List, [], ◌∷◌, ◌++◌, length, slice_index, slice_get, IfOk, OnOk, IsTrue, MatchOption, Some};
+ghost use Rattle.std.specs.Prelude.{◌≡◌, ◌≢◌, ◌<◌, ◌≤◌, ◌+◌, ◌-◌, ◌^◌, ◌↔◌, ℕ, List, [], ◌∷◌, ◌++◌, length};
+ghost use Rattle.std.specs.Prelude.{slice_index, slice_get, IfOk, OnOk, IsTrue, MatchOption, Some};
 ghost use Rattle.std.specs.List.{All};
 ghost use Rattle.cc_base.specs.Forms.{Atom as PlainAtom};
 ghost use Rattle.cc_base.specs.Classes.{SideBelow, PointersBelow};

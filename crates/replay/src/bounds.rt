@@ -31,7 +31,8 @@ pub(crate) fn value_of<'a>(word: &'a [u8], name: &[u8]) -> Option<&'a [u8]>
 /// The value of a first word NAME=VALUE, and what stands behind the blank behind it.
 fn next_value<'a>(text: &'a [u8], name: &[u8]) -> Option<Parts<'a>>
     ensures read { IfSome result (λ p. Stands text.now name.now p.before.now p.behind.now) }
-    ensures only { (value rest : List ℕ) → Stands text.now name.now value rest → HasSome result (λ p. (p.before.now ≡ value) × (p.behind.now ≡ rest)) }
+    ensures only { (value rest : List ℕ) → Stands text.now name.now value rest
+        → HasSome result (λ p. (p.before.now ≡ value) × (p.behind.now ≡ rest)) }
 {
     let parts = cut_first(text, b' ')?;
     let value = value_of(parts.before, name)?;
@@ -55,7 +56,8 @@ struct Values<'a> {
 fn values_behind(rest: &[u8]) -> Option<Values<'_>>
     ensures read { IfSome result (λ v. StandBehind rest.now v.lo.now v.hi.now v.depth.now v.objects.now v.steps.now) }
     ensures only { (lo hi depth objects steps : List ℕ) → StandBehind rest.now lo hi depth objects steps
-        → HasSome result (λ v. (v.lo.now ≡ lo) × (v.hi.now ≡ hi) × (v.depth.now ≡ depth) × (v.objects.now ≡ objects) × (v.steps.now ≡ steps)) }
+        → HasSome result (λ v. (v.lo.now ≡ lo) × (v.hi.now ≡ hi) × (v.depth.now ≡ depth) × (v.objects.now ≡ objects)
+        × (v.steps.now ≡ steps)) }
 {
     let lo = next_value(rest, b"min")?;
     let hi = next_value(lo.behind, b"max")?;
@@ -75,7 +77,8 @@ fn values_behind(rest: &[u8]) -> Option<Values<'_>>
 fn values_of(line: &[u8]) -> Option<Values<'_>>
     ensures read { IfSome result (λ v. AreValues line.now v.lo.now v.hi.now v.depth.now v.objects.now v.steps.now) }
     ensures only { (lo hi depth objects steps : List ℕ) → AreValues line.now lo hi depth objects steps
-        → HasSome result (λ v. (v.lo.now ≡ lo) × (v.hi.now ≡ hi) × (v.depth.now ≡ depth) × (v.objects.now ≡ objects) × (v.steps.now ≡ steps)) }
+        → HasSome result (λ v. (v.lo.now ≡ lo) × (v.hi.now ≡ hi) × (v.depth.now ≡ depth) × (v.objects.now ≡ objects)
+        × (v.steps.now ≡ steps)) }
 {
     let first = cut_first(line, b' ')?;
     if is_text(first.before, b"bounds") {
@@ -87,8 +90,10 @@ fn values_of(line: &[u8]) -> Option<Values<'_>>
 
 /// The bounds of these values; None exactly where a value is no number, or outside its range.
 fn bounds_in(values: &Values<'_>) -> Option<Bounds>
-    ensures read { IfSome result (λ b. AreNumbers (values.now).lo.now (values.now).hi.now (values.now).depth.now (values.now).objects.now (values.now).steps.now b) }
-    ensures only { (b : Limits) → AreNumbers (values.now).lo.now (values.now).hi.now (values.now).depth.now (values.now).objects.now (values.now).steps.now b → result ≡ Some b }
+    ensures read { IfSome result (λ b. AreNumbers (values.now).lo.now (values.now).hi.now (values.now).depth.now
+        (values.now).objects.now (values.now).steps.now b) }
+    ensures only { (b : Limits) → AreNumbers (values.now).lo.now (values.now).hi.now (values.now).depth.now
+        (values.now).objects.now (values.now).steps.now b → result ≡ Some b }
 {
     let lo = signed_of(values.lo)?;
     let hi = signed_of(values.hi)?;

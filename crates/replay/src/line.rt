@@ -40,7 +40,8 @@ fn test_line(
     bounds: &Bounds,
 ) -> Result<Line, NoMemory>
     ensures read { IfOk result (λ l. Tells (λ t. IsTestText (core_of checked.now) bounds.now text.now t) ⊥ l) }
-    ensures only { (t : Seen) → IsTestText (core_of checked.now) bounds.now text.now t → IfOk result (λ l. l ≡ of.Test t) }
+    ensures only { (t : Seen) → IsTestText (core_of checked.now) bounds.now text.now t
+        → IfOk result (λ l. l ≡ of.Test t) }
 {
     match read_test(alloc, text, checked, bounds) {
         Ok(test) => Ok(Line::Test(test)),
@@ -66,7 +67,8 @@ fn before_after(text: &[u8]) -> Option<&[u8]>
 /// What stands before ` after PREFIX`; None where the text does not end so.
 fn before_prefix(alloc: Global, text: &[u8]) -> Result<Option<&[u8]>, NoMemory>
     ensures read { IfOk result (λ r. IfSome r (λ b. (q : Path) × IsBefore text.now b.now q)) }
-    ensures only { (before : List ℕ) (q : Path) → IsBefore text.now before q → IfOk result (λ r. HasSome r (λ b. b.now ≡ before)) }
+    ensures only { (before : List ℕ) (q : Path) → IsBefore text.now before q
+        → IfOk result (λ r. HasSome r (λ b. b.now ≡ before)) }
 {
     match cut_last(text, b' ') {
         None => Ok(None),
@@ -184,7 +186,8 @@ pub(crate) fn read_line(
     checked: &Checked,
     bounds: &Bounds,
 ) -> Result<Line, NoMemory>
-    ensures read { IfOk result (λ l. Tells (λ t. IsLine (core_of checked.now) bounds.now line.now (of.Test t)) (IsLine (core_of checked.now) bounds.now line.now of.Other) l) }
+    ensures read { IfOk result (λ l. Tells (λ t. IsLine (core_of checked.now) bounds.now line.now (of.Test t))
+        (IsLine (core_of checked.now) bounds.now line.now of.Other) l) }
     ensures only { (l : SeenLine) → IsLine (core_of checked.now) bounds.now line.now l → IfOk result (λ r. r ≡ l) }
 {
     match cut_first(line, b' ') {

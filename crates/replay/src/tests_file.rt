@@ -4,7 +4,8 @@ ghost use Rattle.std.specs.Prelude.{◌<◌, ◌≤◌, IfOk, IfErr, ℕ, List, 
 ghost use Rattle.cc_base.specs.declared.inputs.Test.{Test as Seen};
 ghost use Rattle.cc_base.specs.Limits.{Limits};
 ghost use Rattle.cc_model.specs.CheckedProgram.{core_of};
-ghost use Rattle.replay.specs.Files.{IsTestsFile, IsRefusedAt, IsFileOrNoMemory, Refused, IsRefusedOrNoMemory, Passed, Stops};
+ghost use Rattle.replay.specs.Files.{IsTestsFile, IsRefusedAt, IsFileOrNoMemory, Refused, IsRefusedOrNoMemory, Passed};
+ghost use Rattle.replay.specs.Files.{Stops};
 
 use crate::bounds::bounds_of;
 use crate::faults::TestsFault;
@@ -32,7 +33,8 @@ impl Tests {
         number: u32,
         rest: &'a [u8],
     ) -> Result<&'a [u8], TestsFault>
-        ensures passed { IfOk result (λ r. Passed (core_of checked.now) (self.old).bounds number rest.now r.now self.old self.new) }
+        ensures passed { IfOk result (λ r. Passed (core_of checked.now)
+            (self.old).bounds number rest.now r.now self.old self.new) }
         ensures shorter { IfOk result (λ r. length r.now < length rest.now) }
         ensures stops { IfErr result (λ f. Stops (core_of checked.now) (self.old).bounds number rest.now f) }
     {
@@ -51,13 +53,15 @@ impl Tests {
     }
 }
 
-/// What a tests file holds. The first line is that of bounds, the others are any lines of reports but that one, with inputs within
-/// those bounds, and each ends with a newline. Line holds the number of the first line that is none of these.
+/// What a tests file holds. The first line is that of bounds, the others are any lines of reports but that one, with
+/// inputs within those bounds, and each ends with a newline. Line holds the number of the first line that is none of
+/// these.
 pub fn read_tests(alloc: Global, text: &[u8], checked: &Checked) -> Result<Tests, TestsFault>
     requires { length text.now ≤ 16777216 }
     ensures read { IfOk result (λ t. IsTestsFile (core_of checked.now) text.now t.bounds t.tests t.lines) }
     ensures refused { IfErr result (λ f. Refused (core_of checked.now) text.now f) }
-    ensures only { (b : Limits) (tests : List Seen) (lines : List ℕ) → IsTestsFile (core_of checked.now) text.now b tests lines → IsFileOrNoMemory result b tests lines }
+    ensures only { (b : Limits) (tests : List Seen) (lines : List ℕ)
+        → IsTestsFile (core_of checked.now) text.now b tests lines → IsFileOrNoMemory result b tests lines }
     ensures only_line { (n : ℕ) → IsRefusedAt (core_of checked.now) text.now n → IsRefusedOrNoMemory result n }
 {
     let Some(first) = cut_first(text, b'\n') else {

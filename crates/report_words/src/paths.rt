@@ -23,7 +23,8 @@ fn outcomes_of(alloc: Global, bytes: &[u8]) -> Result<Option<PathText>, NoMemory
     Ok(Some(path))
 }
 
-/// The path whose text the word is: one or more bytes of outcomes, or ~ for the empty path; None exactly where there is none.
+/// The path whose text the word is: one or more bytes of outcomes, or ~ for the empty path; None exactly where there is
+/// none.
 pub fn path_of(alloc: Global, word: &[u8]) -> Result<Option<PathText>, NoMemory>
     ensures read { IfOk result (λ r. IfSome r (λ p. IsPath word.now p)) }
     ensures only { (p : Path) → IsPath word.now p → IfOk result (λ r. r ≡ Some p) }

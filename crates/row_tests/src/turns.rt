@@ -29,8 +29,8 @@ use tac_lower::{Tac, lower};
 /// The budget where a row names none.
 const BUDGET: u64 = 20_000;
 
-/// An input; the number of an event of its run, from 0, and another outcome there; the answer, in which a `?` at the end of a
-/// number stands for its digits, and the path of the run on it.
+/// An input; the number of an event of its run, from 0, and another outcome there; the answer, in which a `?` at the
+/// end of a number stands for its digits, and the path of the run on it.
 type Row = (&'static str, u32, u8, &'static str, &'static str);
 
 /// A checked program, and its code.

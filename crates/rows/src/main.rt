@@ -1,5 +1,5 @@
-//! Runs the table of rows that stands on standard input: each row is one call of the tool over files and sinks in memory, and
-//! what must come of it. Writes a line for each row that differs, and how many there were.
+//! Runs the table of rows that stands on standard input: each row is one call of the tool over files and sinks in
+//! memory, and what must come of it. Writes a line for each row that differs, and how many there were.
 //!
 //! A table is lines, each of which begins with its mark and a blank.
 //!
@@ -24,9 +24,9 @@
 //! keep NAME           the report becomes a file for the rows up to the next heading
 //! ```
 //!
-//! The lines of a text are joined by newlines, so one that ends in a newline has an empty last line. A row ends at an empty
-//! line. In what it wants `?` stands for a number and `*` for the rest of a line; a line that ends in `\` has no newline, and
-//! behind a line `...` any lines may come. Where it says nothing, nothing is written, and the status is 0.
+//! The lines of a text are joined by newlines, so one that ends in a newline has an empty last line. A row ends at an
+//! empty line. In what it wants `?` stands for a number and `*` for the rest of a line; a line that ends in `\` has no
+//! newline, and behind a line `...` any lines may come. Where it says nothing, nothing is written, and the status is 0.
 #![tactic(auto)]
 
 mod directive;

@@ -10,5 +10,6 @@ ghost use Rattle.run_laws.specs.Lawful.{Lawful};
 
 /// A traced run keeps the laws of its places, its conditions and its events, also behind a term.
 pub fn a_run_is_lawful()
-    ensures { (p : Program) (b : Limits) (u : Input) → PointsToCells p.layouts (params_of p) → IsInput p b u → Lawful p b u }
+    ensures { (p : Program) (b : Limits) (u : Input) → PointsToCells p.layouts (params_of p) → IsInput p b u
+        → Lawful p b u }
 {}

@@ -39,7 +39,8 @@ fn place_of(outcomes: &[Outcome], own: Outcome) -> usize
 pub fn all_outcomes(alloc: Global, event: &Event) -> Result<Items<Outcome>, NoMemory>
     requires { OffersFew event.now }
     ensures ascend { IfOk result Ascend }
-    ensures all { IfOk result (λ v. (o : PlainOutcome) → In o v ↔ ((o ≡ outcome_at event.now) ⊎ In o (others_at event.now))) }
+    ensures all { IfOk result (λ v. (o : PlainOutcome)
+        → In o v ↔ ((o ≡ outcome_at event.now) ⊎ In o (others_at event.now))) }
     ensures few { IfOk result (λ v. length v ≤ 29) }
 {
     let mut all = outcomes(alloc, event.others.as_slice())?;

@@ -1,4 +1,5 @@
-//! What a search and a walk have in common: what is searched, the outcomes of an event, paths, terms in order, and report lines.
+//! What a search and a walk have in common: what is searched, the outcomes of an event, paths, terms in order, and
+//! report lines.
 #![tactic(auto)]
 
 mod choices;

@@ -204,8 +204,10 @@ pub fn write_terms<K: Sink>(
     terms: &[FoundTerm],
     sink: &mut K,
 ) -> Result<(), SearchFault>
-    ensures ok { OnOk result (K.written sink.new ≡ appended (K.written sink.old) (term_lines (map seen_term terms.now))) }
-    ensures part { OnErr result (WritesPart (K.written sink.old) (K.written sink.new) (term_lines (map seen_term terms.now))) }
+    ensures ok { OnOk result (K.written sink.new
+        ≡ appended (K.written sink.old) (term_lines (map seen_term terms.now))) }
+    ensures part { OnErr result (WritesPart (K.written sink.old) (K.written sink.new)
+        (term_lines (map seen_term terms.now))) }
     ensures sink { IfErr result (λ e. SinkCause (K.faults sink.old) (K.faults sink.new) e) }
     ensures never_falls { K.faults sink.old ≤ K.faults sink.new }
 {

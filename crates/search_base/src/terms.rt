@@ -113,7 +113,8 @@ fn place_of(terms: &[FoundTerm], term: FoundTerm) -> usize
 
 /// Puts a term among terms in order, where it isn't there.
 fn add_term(terms: &mut Vec<FoundTerm>, term: FoundTerm) -> Result<(), NoMemory>
-    ensures all { OnOk result ((x : Found) → In x (map seen_term (terms.new).items) ↔ (In x (map seen_term (terms.old).items) ⊎ (x ≡ seen_term term))) }
+    ensures all { OnOk result ((x : Found)
+        → In x (map seen_term (terms.new).items) ↔ (In x (map seen_term (terms.old).items) ⊎ (x ≡ seen_term term))) }
     ensures order { OnOk result (InOrder (terms.old).items → InOrder (terms.new).items) }
 {
     let at = place_of(terms.as_slice(), term);
@@ -132,7 +133,9 @@ pub fn add_terms(
     terms: &[Term],
     all: &mut Vec<FoundTerm>,
 ) -> Result<(), NoMemory>
-    ensures all { OnOk result ((x : Found) → In x (map seen_term (all.new).items) ↔ (In x (map seen_term (all.old).items) ⊎ In x (map (found_at checked.now) terms.now))) }
+    ensures all { OnOk result ((x : Found)
+        → In x (map seen_term (all.new).items)
+        ↔ (In x (map seen_term (all.old).items) ⊎ In x (map (found_at checked.now) terms.now))) }
     ensures order { OnOk result (InOrder (all.old).items → InOrder (all.new).items) }
 {
     for term in terms {

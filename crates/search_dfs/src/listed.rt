@@ -27,8 +27,12 @@ fn list_test<K: Sink>(
     tally: &mut Tally,
 ) -> Result<(), SearchFault>
     requires { TraceOf (setting_of task.now) (run.now).from (run.now).trace (run.now).path }
-    ensures ok { OnOk result (Wrote (setting_of task.now) (test_item (test_at run.now) ∷ []) (told (K.written sink.old) (K.faults sink.old) tally.old) (told (K.written sink.new) (K.faults sink.new) tally.new)) }
-    ensures err { OnErr result (WroteSome (setting_of task.now) (test_item (test_at run.now) ∷ []) (told (K.written sink.old) (K.faults sink.old) tally.old) (told (K.written sink.new) (K.faults sink.new) tally.new)) }
+    ensures ok { OnOk result (Wrote (setting_of task.now) (test_item (test_at run.now) ∷ [])
+        (told (K.written sink.old) (K.faults sink.old) tally.old)
+        (told (K.written sink.new) (K.faults sink.new) tally.new)) }
+    ensures err { OnErr result (WroteSome (setting_of task.now) (test_item (test_at run.now) ∷ [])
+        (told (K.written sink.old) (K.faults sink.old) tally.old)
+        (told (K.written sink.new) (K.faults sink.new) tally.new)) }
     ensures sink { IfErr result (λ e. SinkCause (K.faults sink.old) (K.faults sink.new) e) }
     ensures never_falls { K.faults sink.old ≤ K.faults sink.new }
 {
@@ -46,8 +50,12 @@ fn list_past<K: Sink>(
     tally: &mut Tally,
 ) -> Result<(), SearchFault>
     requires { TraceOf (setting_of task.now) (run.now).from (run.now).trace (run.now).path }
-    ensures ok { OnOk result (Wrote (setting_of task.now) (past_item (test_at run.now) ∷ []) (told (K.written sink.old) (K.faults sink.old) tally.old) (told (K.written sink.new) (K.faults sink.new) tally.new)) }
-    ensures err { OnErr result (WroteSome (setting_of task.now) (past_item (test_at run.now) ∷ []) (told (K.written sink.old) (K.faults sink.old) tally.old) (told (K.written sink.new) (K.faults sink.new) tally.new)) }
+    ensures ok { OnOk result (Wrote (setting_of task.now) (past_item (test_at run.now) ∷ [])
+        (told (K.written sink.old) (K.faults sink.old) tally.old)
+        (told (K.written sink.new) (K.faults sink.new) tally.new)) }
+    ensures err { OnErr result (WroteSome (setting_of task.now) (past_item (test_at run.now) ∷ [])
+        (told (K.written sink.old) (K.faults sink.old) tally.old)
+        (told (K.written sink.new) (K.faults sink.new) tally.new)) }
     ensures sink { IfErr result (λ e. SinkCause (K.faults sink.old) (K.faults sink.new) e) }
     ensures never_falls { K.faults sink.old ≤ K.faults sink.new }
 {
@@ -65,8 +73,12 @@ pub(crate) fn list_run<K: Sink>(
     tally: &mut Tally,
 ) -> Result<(), SearchFault>
     requires { TraceOf (setting_of task.now) (run.now).from (run.now).trace (run.now).path }
-    ensures ok { OnOk result (Ended (setting_of task.now) (after_of task.now) (test_at run.now) (told (K.written sink.old) (K.faults sink.old) tally.old) (told (K.written sink.new) (K.faults sink.new) tally.new)) }
-    ensures err { OnErr result (EndedSome (setting_of task.now) (after_of task.now) (test_at run.now) (told (K.written sink.old) (K.faults sink.old) tally.old) (told (K.written sink.new) (K.faults sink.new) tally.new)) }
+    ensures ok { OnOk result (Ended (setting_of task.now) (after_of task.now) (test_at run.now)
+        (told (K.written sink.old) (K.faults sink.old) tally.old)
+        (told (K.written sink.new) (K.faults sink.new) tally.new)) }
+    ensures err { OnErr result (EndedSome (setting_of task.now) (after_of task.now) (test_at run.now)
+        (told (K.written sink.old) (K.faults sink.old) tally.old)
+        (told (K.written sink.new) (K.faults sink.new) tally.new)) }
     ensures sink { IfErr result (λ e. SinkCause (K.faults sink.old) (K.faults sink.new) e) }
     ensures never_falls { K.faults sink.old ≤ K.faults sink.new }
 {
@@ -88,8 +100,12 @@ pub(crate) fn list_stray<K: Sink>(
 ) -> Result<(), SearchFault>
     requires trace { TraceOf (setting_of task.now) (run.now).from (run.now).trace (run.now).path }
     requires prefix { All HasByte prefix.now }
-    ensures ok { OnOk result (Wrote (setting_of task.now) (stray_item (test_at run.now) prefix.now ∷ []) (told (K.written sink.old) (K.faults sink.old) tally.old) (told (K.written sink.new) (K.faults sink.new) tally.new)) }
-    ensures err { OnErr result (WroteSome (setting_of task.now) (stray_item (test_at run.now) prefix.now ∷ []) (told (K.written sink.old) (K.faults sink.old) tally.old) (told (K.written sink.new) (K.faults sink.new) tally.new)) }
+    ensures ok { OnOk result (Wrote (setting_of task.now) (stray_item (test_at run.now) prefix.now ∷ [])
+        (told (K.written sink.old) (K.faults sink.old) tally.old)
+        (told (K.written sink.new) (K.faults sink.new) tally.new)) }
+    ensures err { OnErr result (WroteSome (setting_of task.now) (stray_item (test_at run.now) prefix.now ∷ [])
+        (told (K.written sink.old) (K.faults sink.old) tally.old)
+        (told (K.written sink.new) (K.faults sink.new) tally.new)) }
     ensures sink { IfErr result (λ e. SinkCause (K.faults sink.old) (K.faults sink.new) e) }
     ensures never_falls { K.faults sink.old ≤ K.faults sink.new }
 {
@@ -107,8 +123,12 @@ pub(crate) fn list_spent<K: Sink>(
     tally: &mut Tally,
 ) -> Result<(), SearchFault>
     requires { All HasByte prefix.now }
-    ensures ok { OnOk result (Wrote (setting_of task.now) (spent_item prefix.now ∷ []) (told (K.written sink.old) (K.faults sink.old) tally.old) (told (K.written sink.new) (K.faults sink.new) tally.new)) }
-    ensures err { OnErr result (WroteSome (setting_of task.now) (spent_item prefix.now ∷ []) (told (K.written sink.old) (K.faults sink.old) tally.old) (told (K.written sink.new) (K.faults sink.new) tally.new)) }
+    ensures ok { OnOk result (Wrote (setting_of task.now) (spent_item prefix.now ∷ [])
+        (told (K.written sink.old) (K.faults sink.old) tally.old)
+        (told (K.written sink.new) (K.faults sink.new) tally.new)) }
+    ensures err { OnErr result (WroteSome (setting_of task.now) (spent_item prefix.now ∷ [])
+        (told (K.written sink.old) (K.faults sink.old) tally.old)
+        (told (K.written sink.new) (K.faults sink.new) tally.new)) }
     ensures sink { IfErr result (λ e. SinkCause (K.faults sink.old) (K.faults sink.new) e) }
     ensures never_falls { K.faults sink.old ≤ K.faults sink.new }
 {
@@ -127,8 +147,12 @@ pub(crate) fn list_unrun<K: Sink>(
 ) -> Result<(), SearchFault>
     requires prefix { All HasByte prefix.now }
     requires few { length (input.now).cells < 10 ^ 18 }
-    ensures ok { OnOk result (Wrote (setting_of task.now) (unrun_item input.now prefix.now ∷ []) (told (K.written sink.old) (K.faults sink.old) tally.old) (told (K.written sink.new) (K.faults sink.new) tally.new)) }
-    ensures err { OnErr result (WroteSome (setting_of task.now) (unrun_item input.now prefix.now ∷ []) (told (K.written sink.old) (K.faults sink.old) tally.old) (told (K.written sink.new) (K.faults sink.new) tally.new)) }
+    ensures ok { OnOk result (Wrote (setting_of task.now) (unrun_item input.now prefix.now ∷ [])
+        (told (K.written sink.old) (K.faults sink.old) tally.old)
+        (told (K.written sink.new) (K.faults sink.new) tally.new)) }
+    ensures err { OnErr result (WroteSome (setting_of task.now) (unrun_item input.now prefix.now ∷ [])
+        (told (K.written sink.old) (K.faults sink.old) tally.old)
+        (told (K.written sink.new) (K.faults sink.new) tally.new)) }
     ensures sink { IfErr result (λ e. SinkCause (K.faults sink.old) (K.faults sink.new) e) }
     ensures never_falls { K.faults sink.old ≤ K.faults sink.new }
 {

@@ -6,7 +6,8 @@ ghost use Rattle.search_dfs.specs.declared.open.Pending.{Pending as Kept};
 ghost use Rattle.search_dfs.specs.Output.{out as told};
 ghost use Rattle.search_dfs.specs.Task.{setting_of, after_of, Known};
 ghost use Rattle.search_base.specs.Lines.{SinkCause};
-ghost use Rattle.search_dfs.specs.Turns.{levels_of, runs_of, Fits_open, Ready, Taken, Solving, Turned_to, Went, WentSome, Turn, TurnSome};
+ghost use Rattle.search_dfs.specs.Turns.{levels_of, runs_of, Fits_open, Ready, Taken, Solving, Turned_to, Went};
+ghost use Rattle.search_dfs.specs.Turns.{WentSome, Turn, TurnSome};
 
 use crate::listed::{list_run, list_spent, list_stray, list_unrun};
 use crate::order::is_passed;
@@ -29,8 +30,8 @@ pub struct Pending {
     pub from: u32,
 }
 
-/// What a search keeps: at each level the unsettled outcomes, the runs to which they belong, the last one at the end, how many
-/// runs were made, and whether nothing more is to be solved.
+/// What a search keeps: at each level the unsettled outcomes, the runs to which they belong, the last one at the end,
+/// how many runs were made, and whether nothing more is to be solved.
 #[derive(Drop)]
 pub struct Open {
     pub tree: Tree,
@@ -49,8 +50,14 @@ impl Open {
         tally: &mut Tally,
     ) -> Result<(), SearchFault>
         requires { (r : Kept) × (rs : List Kept) × Ready (setting_of task.now) self.old r rs }
-        ensures ok { OnOk result ((limit : ℕ) → Went (setting_of task.now) (after_of task.now) limit self.old self.new (told (K.written sink.old) (K.faults sink.old) tally.old) (told (K.written sink.new) (K.faults sink.new) tally.new)) }
-        ensures err { OnErr result ((limit : ℕ) → WentSome (setting_of task.now) (after_of task.now) limit self.old (told (K.written sink.old) (K.faults sink.old) tally.old) (told (K.written sink.new) (K.faults sink.new) tally.new)) }
+        ensures ok { OnOk result ((limit : ℕ)
+            → Went (setting_of task.now) (after_of task.now) limit self.old self.new
+            (told (K.written sink.old) (K.faults sink.old) tally.old)
+            (told (K.written sink.new) (K.faults sink.new) tally.new)) }
+        ensures err { OnErr result ((limit : ℕ)
+            → WentSome (setting_of task.now) (after_of task.now) limit self.old
+            (told (K.written sink.old) (K.faults sink.old) tally.old)
+            (told (K.written sink.new) (K.faults sink.new) tally.new)) }
         ensures sink { IfErr result (λ e. SinkCause (K.faults sink.old) (K.faults sink.new) e) }
         ensures never_falls { K.faults sink.old ≤ K.faults sink.new }
     {
@@ -77,12 +84,22 @@ impl Open {
         input: &Input,
     ) -> Result<(), SearchFault>
         requires known { Known task.now }
-        requires solving { (os : List PlainOutcome) × (ls : List (List PlainOutcome)) × (r : Kept) × (rs : List Kept) × Solving (setting_of task.now) (after_of task.now) self.old outcome prefix.now os ls r rs × Turned_to (setting_of task.now) (r.trace).input prefix.now input.now }
+        requires solving { (os : List PlainOutcome) × (ls : List (List PlainOutcome)) × (r : Kept) × (rs : List Kept)
+            × Solving (setting_of task.now) (after_of task.now) self.old outcome prefix.now os ls r rs
+            × Turned_to (setting_of task.now) (r.trace).input prefix.now input.now }
         requires room { self.old.made ≤ task.now.limit }
-        ensures ok { OnOk result ((os : List PlainOutcome) (ls : List (List PlainOutcome)) (r : Kept) (rs : List Kept) → Solving (setting_of task.now) (after_of task.now) self.old outcome prefix.now os ls r rs → Turned_to (setting_of task.now) (r.trace).input prefix.now input.now →
-            Turn (setting_of task.now) (after_of task.now) task.now.limit ((outcome ∷ os) ∷ ls) (r ∷ rs) self.old self.new (told (K.written sink.old) (K.faults sink.old) tally.old) (told (K.written sink.new) (K.faults sink.new) tally.new) × (self.new.made ≤ task.now.limit)) }
-        ensures err { OnErr result ((os : List PlainOutcome) (ls : List (List PlainOutcome)) (r : Kept) (rs : List Kept) → Solving (setting_of task.now) (after_of task.now) self.old outcome prefix.now os ls r rs → Turned_to (setting_of task.now) (r.trace).input prefix.now input.now →
-            TurnSome (setting_of task.now) (after_of task.now) task.now.limit ((outcome ∷ os) ∷ ls) (r ∷ rs) self.old (told (K.written sink.old) (K.faults sink.old) tally.old) (told (K.written sink.new) (K.faults sink.new) tally.new)) }
+        ensures ok { OnOk result ((os : List PlainOutcome) (ls : List (List PlainOutcome)) (r : Kept) (rs : List Kept)
+            → Solving (setting_of task.now) (after_of task.now) self.old outcome prefix.now os ls r rs
+            → Turned_to (setting_of task.now) (r.trace).input prefix.now input.now →
+            Turn (setting_of task.now) (after_of task.now) task.now.limit ((outcome ∷ os) ∷ ls)
+            (r ∷ rs) self.old self.new (told (K.written sink.old) (K.faults sink.old) tally.old)
+            (told (K.written sink.new) (K.faults sink.new) tally.new) × (self.new.made ≤ task.now.limit)) }
+        ensures err { OnErr result ((os : List PlainOutcome) (ls : List (List PlainOutcome)) (r : Kept)
+            (rs : List Kept) → Solving (setting_of task.now) (after_of task.now) self.old outcome prefix.now os ls r rs
+            → Turned_to (setting_of task.now) (r.trace).input prefix.now input.now →
+            TurnSome (setting_of task.now) (after_of task.now) task.now.limit ((outcome ∷ os) ∷ ls) (r ∷ rs) self.old
+            (told (K.written sink.old) (K.faults sink.old) tally.old)
+            (told (K.written sink.new) (K.faults sink.new) tally.new)) }
         ensures sink { IfErr result (λ e. SinkCause (K.faults sink.old) (K.faults sink.new) e) }
         ensures never_falls { K.faults sink.old ≤ K.faults sink.new }
     {
@@ -110,12 +127,20 @@ impl Open {
         prefix: &PathText,
     ) -> Result<(), SearchFault>
         requires known { Known task.now }
-        requires solving { (os : List PlainOutcome) × (ls : List (List PlainOutcome)) × (r : Kept) × (rs : List Kept) × Solving (setting_of task.now) (after_of task.now) self.old outcome prefix.now os ls r rs }
+        requires solving { (os : List PlainOutcome) × (ls : List (List PlainOutcome)) × (r : Kept) × (rs : List Kept)
+            × Solving (setting_of task.now) (after_of task.now) self.old outcome prefix.now os ls r rs }
         requires room { self.old.made ≤ task.now.limit }
-        ensures ok { OnOk result ((os : List PlainOutcome) (ls : List (List PlainOutcome)) (r : Kept) (rs : List Kept) → Solving (setting_of task.now) (after_of task.now) self.old outcome prefix.now os ls r rs →
-            Turn (setting_of task.now) (after_of task.now) task.now.limit ((outcome ∷ os) ∷ ls) (r ∷ rs) self.old self.new (told (K.written sink.old) (K.faults sink.old) tally.old) (told (K.written sink.new) (K.faults sink.new) tally.new) × (self.new.made ≤ task.now.limit)) }
-        ensures err { OnErr result ((os : List PlainOutcome) (ls : List (List PlainOutcome)) (r : Kept) (rs : List Kept) → Solving (setting_of task.now) (after_of task.now) self.old outcome prefix.now os ls r rs →
-            TurnSome (setting_of task.now) (after_of task.now) task.now.limit ((outcome ∷ os) ∷ ls) (r ∷ rs) self.old (told (K.written sink.old) (K.faults sink.old) tally.old) (told (K.written sink.new) (K.faults sink.new) tally.new)) }
+        ensures ok { OnOk result ((os : List PlainOutcome) (ls : List (List PlainOutcome)) (r : Kept) (rs : List Kept)
+            → Solving (setting_of task.now) (after_of task.now) self.old outcome prefix.now os ls r rs →
+            Turn (setting_of task.now) (after_of task.now) task.now.limit ((outcome ∷ os) ∷ ls)
+            (r ∷ rs) self.old self.new (told (K.written sink.old) (K.faults sink.old) tally.old)
+            (told (K.written sink.new) (K.faults sink.new) tally.new) × (self.new.made ≤ task.now.limit)) }
+        ensures err { OnErr result ((os : List PlainOutcome) (ls : List (List PlainOutcome)) (r : Kept)
+            (rs : List Kept) → Solving (setting_of task.now)
+            (after_of task.now) self.old outcome prefix.now os ls r rs →
+            TurnSome (setting_of task.now) (after_of task.now) task.now.limit ((outcome ∷ os) ∷ ls) (r ∷ rs) self.old
+            (told (K.written sink.old) (K.faults sink.old) tally.old)
+            (told (K.written sink.new) (K.faults sink.new) tally.new)) }
         ensures sink { IfErr result (λ e. SinkCause (K.faults sink.old) (K.faults sink.new) e) }
         ensures never_falls { K.faults sink.old ≤ K.faults sink.new }
     {
@@ -145,12 +170,19 @@ impl Open {
         outcome: Outcome,
     ) -> Result<(), SearchFault>
         requires known { Known task.now }
-        requires taken { (os : List PlainOutcome) × (ls : List (List PlainOutcome)) × (r : Kept) × (rs : List Kept) × Taken (setting_of task.now) self.old outcome os ls r rs }
+        requires taken { (os : List PlainOutcome) × (ls : List (List PlainOutcome)) × (r : Kept) × (rs : List Kept)
+            × Taken (setting_of task.now) self.old outcome os ls r rs }
         requires room { self.old.made ≤ task.now.limit }
-        ensures ok { OnOk result ((os : List PlainOutcome) (ls : List (List PlainOutcome)) (r : Kept) (rs : List Kept) → Taken (setting_of task.now) self.old outcome os ls r rs →
-            Turn (setting_of task.now) (after_of task.now) task.now.limit ((outcome ∷ os) ∷ ls) (r ∷ rs) self.old self.new (told (K.written sink.old) (K.faults sink.old) tally.old) (told (K.written sink.new) (K.faults sink.new) tally.new) × (self.new.made ≤ task.now.limit)) }
-        ensures err { OnErr result ((os : List PlainOutcome) (ls : List (List PlainOutcome)) (r : Kept) (rs : List Kept) → Taken (setting_of task.now) self.old outcome os ls r rs →
-            TurnSome (setting_of task.now) (after_of task.now) task.now.limit ((outcome ∷ os) ∷ ls) (r ∷ rs) self.old (told (K.written sink.old) (K.faults sink.old) tally.old) (told (K.written sink.new) (K.faults sink.new) tally.new)) }
+        ensures ok { OnOk result ((os : List PlainOutcome) (ls : List (List PlainOutcome)) (r : Kept) (rs : List Kept)
+            → Taken (setting_of task.now) self.old outcome os ls r rs →
+            Turn (setting_of task.now) (after_of task.now) task.now.limit ((outcome ∷ os) ∷ ls)
+            (r ∷ rs) self.old self.new (told (K.written sink.old) (K.faults sink.old) tally.old)
+            (told (K.written sink.new) (K.faults sink.new) tally.new) × (self.new.made ≤ task.now.limit)) }
+        ensures err { OnErr result ((os : List PlainOutcome) (ls : List (List PlainOutcome)) (r : Kept)
+            (rs : List Kept) → Taken (setting_of task.now) self.old outcome os ls r rs →
+            TurnSome (setting_of task.now) (after_of task.now) task.now.limit ((outcome ∷ os) ∷ ls) (r ∷ rs) self.old
+            (told (K.written sink.old) (K.faults sink.old) tally.old)
+            (told (K.written sink.new) (K.faults sink.new) tally.new)) }
         ensures sink { IfErr result (λ e. SinkCause (K.faults sink.old) (K.faults sink.new) e) }
         ensures never_falls { K.faults sink.old ≤ K.faults sink.new }
     {
@@ -179,9 +211,13 @@ impl Open {
         requires fits { Fits_open (setting_of task.now) self.old }
         requires more { 0 < self.old.depth }
         requires room { self.old.made ≤ task.now.limit }
-        ensures ok { OnOk result (Turn (setting_of task.now) (after_of task.now) task.now.limit (levels_of self.old) (runs_of self.old) self.old self.new (told (K.written sink.old) (K.faults sink.old) tally.old) (told (K.written sink.new) (K.faults sink.new) tally.new)) }
+        ensures ok { OnOk result (Turn (setting_of task.now) (after_of task.now) task.now.limit (levels_of self.old)
+            (runs_of self.old) self.old self.new (told (K.written sink.old) (K.faults sink.old) tally.old)
+            (told (K.written sink.new) (K.faults sink.new) tally.new)) }
         ensures room { OnOk result (self.new.made ≤ task.now.limit) }
-        ensures err { OnErr result (TurnSome (setting_of task.now) (after_of task.now) task.now.limit (levels_of self.old) (runs_of self.old) self.old (told (K.written sink.old) (K.faults sink.old) tally.old) (told (K.written sink.new) (K.faults sink.new) tally.new)) }
+        ensures err { OnErr result (TurnSome (setting_of task.now) (after_of task.now) task.now.limit
+            (levels_of self.old) (runs_of self.old) self.old (told (K.written sink.old) (K.faults sink.old) tally.old)
+            (told (K.written sink.new) (K.faults sink.new) tally.new)) }
         ensures sink { IfErr result (λ e. SinkCause (K.faults sink.old) (K.faults sink.new) e) }
         ensures never_falls { K.faults sink.old ≤ K.faults sink.new }
     {

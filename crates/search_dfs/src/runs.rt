@@ -35,7 +35,8 @@ pub(crate) fn own_outcome(run: &Pending, k: u32) -> Outcome
 /// Drops the last run where it was entered at this depth.
 pub(crate) fn leave(runs: &mut Items<Pending>, depth: u32)
     requires { 0 < length runs.old }
-    ensures { (r : Kept) (rs : List Kept) → last_first runs.old ≡ r ∷ rs → last_first runs.new ≡ left_at depth (r ∷ rs) }
+    ensures { (r : Kept) (rs : List Kept) → last_first runs.old ≡ r ∷ rs
+        → last_first runs.new ≡ left_at depth (r ∷ rs) }
 {
     let last = runs.len() - 1;
     if runs.as_slice()[last].from == depth {

@@ -31,9 +31,9 @@ use search_base::{SearchFault, narrow, write_terms};
 use std::alloc::Global;
 use tac_lower::Tac;
 
-/// The counts of a finished search: its tests, its runs, its terms, the prefixes whose solve passed the budget, the tests that the
-/// bound on steps ended, the runs that left their prediction, the inputs that were not run, and whether a test or stray run ended
-/// as a fault.
+/// The counts of a finished search: its tests, its runs, its terms, the prefixes whose solve passed the budget, the
+/// tests that the bound on steps ended, the runs that left their prediction, the inputs that were not run, and whether
+/// a test or stray run ended as a fault.
 #[derive(Clone, Copy)]
 pub struct Summary {
     pub paths: u64,
@@ -72,8 +72,12 @@ fn search_all<K: Sink>(task: &Task<'_>, sink: &mut K, tally: &mut Tally) -> Resu
     requires known { Known task.now }
     requires laws { Laws (layer_of (setting_of task.now)) }
     requires runs { 1 ≤ task.now.limit }
-    ensures ok { OnOk result (Listed_whole (setting_of task.now) (after_of task.now) task.now.limit (told (K.written sink.old) (K.faults sink.old) tally.old) (told (K.written sink.new) (K.faults sink.new) tally.new)) }
-    ensures err { OnErr result (Listed_part (setting_of task.now) (after_of task.now) task.now.limit (told (K.written sink.old) (K.faults sink.old) tally.old) (told (K.written sink.new) (K.faults sink.new) tally.new)) }
+    ensures ok { OnOk result (Listed_whole (setting_of task.now) (after_of task.now) task.now.limit
+        (told (K.written sink.old) (K.faults sink.old) tally.old)
+        (told (K.written sink.new) (K.faults sink.new) tally.new)) }
+    ensures err { OnErr result (Listed_part (setting_of task.now) (after_of task.now) task.now.limit
+        (told (K.written sink.old) (K.faults sink.old) tally.old)
+        (told (K.written sink.new) (K.faults sink.new) tally.new)) }
     ensures sink { IfErr result (λ e. SinkCause (K.faults sink.old) (K.faults sink.new) e) }
     ensures never_falls { K.faults sink.old ≤ K.faults sink.new }
 {
@@ -111,9 +115,10 @@ fn summed(tally: &Tally) -> Summary
     })
 }
 
-/// Searches the paths of a checked program's tested function depth first, with at most `runs` runs and a budget for each group of
-/// a solve, above the path `after` where one is given. It writes the keyed lines, each as soon as no smaller key can come, and
-/// then the lines of the terms. Sink only where the sink's faults rose; what was written by then is a first part of such lines.
+/// Searches the paths of a checked program's tested function depth first, with at most `runs` runs and a budget for
+/// each group of a solve, above the path `after` where one is given. It writes the keyed lines, each as soon as no
+/// smaller key can come, and then the lines of the terms. Sink only where the sink's faults rose; what was written by
+/// then is a first part of such lines.
 pub fn explore<K: Sink>(
     alloc: Global,
     checked: &Checked,
@@ -127,9 +132,11 @@ pub fn explore<K: Sink>(
     requires compiles { Compiles (core_of checked.now) (map (seen checked.now) tac.now.code) (λ f. first_in tac.now f) }
     requires points { PointsToCells (core_of checked.now).layouts (params_of (core_of checked.now)) }
     requires runs { 1 ≤ runs }
-    ensures explored { IfOk result (λ s. Explored (setting checked.now bounds.now budget) (option_map (λ r. r.now) after.entry) runs (K.written out.old) (K.written out.new) s) }
+    ensures explored { IfOk result (λ s. Explored (setting checked.now bounds.now budget)
+        (option_map (λ r. r.now) after.entry) runs (K.written out.old) (K.written out.new) s) }
     ensures laws { IfOk result (λ s. Laws (layer_of (setting checked.now bounds.now budget))) }
-    ensures some { OnErr result (ExploredSome (setting checked.now bounds.now budget) (option_map (λ r. r.now) after.entry) (K.written out.old) (K.written out.new)) }
+    ensures some { OnErr result (ExploredSome (setting checked.now bounds.now budget)
+        (option_map (λ r. r.now) after.entry) (K.written out.old) (K.written out.new)) }
     ensures sink { IfErr result (λ e. SinkCause (K.faults out.old) (K.faults out.new) e) }
     ensures never_falls { K.faults out.old ≤ K.faults out.new }
 {

@@ -16,7 +16,8 @@ use cc_model::base::{End, NoMemory};
 use search_base::{FoundTerm, add_terms, either, is_fault};
 use std::alloc::Global;
 
-/// The counts of the items listed so far, whether a test or stray run ended as a fault, and the terms of their runs, in order.
+/// The counts of the items listed so far, whether a test or stray run ended as a fault, and the terms of their runs, in
+/// order.
 #[derive(Drop)]
 pub struct Tally {
     pub paths: u64,
@@ -57,7 +58,16 @@ fn with_steps(count: u64, end: End) -> Result<u64, NoMemory>
 impl Tally {
     /// Nothing counted.
     pub(crate) fn new(alloc: Global) -> Tally
-        ensures zero { result ≡ record { paths = 0; runs = 0; spent = 0; steps = 0; strays = 0; unrun = 0; fault = false; terms = result.terms } }
+        ensures zero { result ≡ record {
+          paths = 0;
+          runs = 0;
+          spent = 0;
+          steps = 0;
+          strays = 0;
+          unrun = 0;
+          fault = false;
+          terms = result.terms;
+        } }
         ensures none { result.terms.items ≡ [] }
     {
         Tally {
@@ -103,7 +113,8 @@ impl Tally {
     /// Counts a run that left its prediction.
     pub(crate) fn count_stray(&mut self, task: &Task<'_>, run: &Pending) -> Result<(), NoMemory>
         requires { TraceOf (setting_of task.now) (run.now).from (run.now).trace (run.now).path }
-        ensures { OnOk result ((q : Path) → Tallied (setting_of task.now) (stray_item (test_at run.now) q ∷ []) self.old self.new) }
+        ensures { OnOk result ((q : Path) → Tallied (setting_of task.now)
+            (stray_item (test_at run.now) q ∷ []) self.old self.new) }
     {
         add_terms(task.checked, run.trace.terms.as_slice(), &mut self.terms)?;
         let runs = one_more(self.runs)?;
@@ -125,7 +136,8 @@ impl Tally {
 
     /// Counts an input that is not run.
     pub(crate) fn count_unrun(&mut self) -> Result<(), NoMemory>
-        ensures { OnOk result ((p : Setting) (i : PlainInput) (q : Path) → Tallied p (unrun_item i q ∷ []) self.old self.new) }
+        ensures { OnOk result ((p : Setting) (i : PlainInput) (q : Path)
+            → Tallied p (unrun_item i q ∷ []) self.old self.new) }
     {
         self.unrun = one_more(self.unrun)?;
         Ok(())

@@ -5,7 +5,8 @@ use cc_model::base::{Bounds, PathText};
 use std::alloc::Global;
 use tac_lower::Tac;
 
-/// What a search has from its start: how many runs may be made, the budget of a solve, and the path after which it goes on.
+/// What a search has from its start: how many runs may be made, the budget of a solve, and the path after which it goes
+/// on.
 #[derive(Clone, Copy)]
 pub struct Task<'a> {
     pub alloc: Global,

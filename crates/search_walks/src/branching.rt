@@ -1,6 +1,7 @@
 //! The walk by random branches.
 
-ghost use Rattle.std.specs.Prelude.{◌≡◌, IsTrue, false, ◌<◌, ◌≤◌, ◌*◌, ℕ, Bool, true, List, Option, length, OnOk, OnErr, IfErr};
+ghost use Rattle.std.specs.Prelude.{◌≡◌, IsTrue, false, ◌<◌, ◌≤◌, ◌*◌, ℕ, Bool, true, List, Option, length, OnOk};
+ghost use Rattle.std.specs.Prelude.{OnErr, IfErr};
 ghost use Rattle.rand_pcg.specs.Lcg.{Lcg};
 ghost use Rattle.search_walks.specs.Branching.{Offering, FromBase, CameTo, left_to_draw};
 ghost use Rattle.search_walks.specs.Counted.{Nothing};
@@ -50,11 +51,19 @@ impl Branching {
         requires some { 1 ≤ length self.old.open.items }
         requires offering { Offering (setting_of task.now) self.old.current self.old.open.items }
         requires size { length log.old.covered.items ≡ 2 * length ((task.now.checked).now).sites }
-        ensures came { OnOk result ((start : Lcg) (before : Option (List ℕ)) → CameTo (setting_of task.now) task.now.limit start before self.old.current self.old.open.items words.old log.old (K.written out.old) → CameTo (setting_of task.now) task.now.limit start before self.new.current self.new.open.items words.new log.new (K.written out.new)) }
+        ensures came { OnOk result ((start : Lcg) (before : Option (List ℕ))
+            → CameTo (setting_of task.now) task.now.limit start before self.old.current self.old.open.items words.old
+            log.old (K.written out.old) → CameTo
+            (setting_of task.now) task.now.limit start before self.new.current self.new.open.items words.new log.new
+            (K.written out.new)) }
         ensures offering { OnOk result (Offering (setting_of task.now) self.new.current self.new.open.items) }
         ensures within { OnOk result (log.new.made ≤ task.now.limit) }
-        ensures falls { OnOk result (left_to_draw task.now.limit log.new.made (length self.new.open.items) < left_to_draw task.now.limit log.old.made (length self.old.open.items)) }
-        ensures err { OnErr result ((start : Lcg) (before : Option (List ℕ)) → CameTo (setting_of task.now) task.now.limit start before self.old.current self.old.open.items words.old log.old (K.written out.old) → WalkedSome (setting_of task.now) (FromBase (setting_of task.now) task.now.limit start true) before (K.written out.new)) }
+        ensures falls { OnOk result (left_to_draw task.now.limit log.new.made (length self.new.open.items)
+            < left_to_draw task.now.limit log.old.made (length self.old.open.items)) }
+        ensures err { OnErr result ((start : Lcg) (before : Option (List ℕ))
+            → CameTo (setting_of task.now) task.now.limit start before self.old.current self.old.open.items words.old
+            log.old (K.written out.old) → WalkedSome (setting_of task.now)
+            (FromBase (setting_of task.now) task.now.limit start true) before (K.written out.new)) }
         ensures sink { IfErr result (λ e. SinkCause (K.faults out.old) (K.faults out.new) e) }
         ensures never_falls { K.faults out.old ≤ K.faults out.new }
     {
@@ -70,8 +79,8 @@ impl Branching {
     }
 }
 
-/// Walks from the base input: it draws one of the current run's alternatives that are left, and what its input gives becomes the
-/// current run.
+/// Walks from the base input: it draws one of the current run's alternatives that are left, and what its input gives
+/// becomes the current run.
 pub(crate) fn branch_walk<K: Sink>(
     task: &Task<'_>,
     words: &mut Pcg32,
@@ -81,8 +90,14 @@ pub(crate) fn branch_walk<K: Sink>(
     requires known { Known task.now }
     requires runs { 1 ≤ task.now.limit }
     requires nothing { Nothing (length ((task.now.checked).now).sites) log.old }
-    ensures ok { OnOk result ((cuts : Bool) → Walked (setting_of task.now) (λ l. Branches (setting_of task.now) task.now.limit cuts (base_of (setting_of task.now)) (candidates_at (setting_of task.now) (base_of (setting_of task.now))) words.old 1 l) (K.written out.old) (K.written out.new) log.new) }
-    ensures err { OnErr result (WalkedSome (setting_of task.now) (λ l. Branches (setting_of task.now) task.now.limit true (base_of (setting_of task.now)) (candidates_at (setting_of task.now) (base_of (setting_of task.now))) words.old 1 l) (K.written out.old) (K.written out.new)) }
+    ensures ok { OnOk result ((cuts : Bool)
+        → Walked (setting_of task.now) (λ l. Branches (setting_of task.now) task.now.limit cuts
+        (base_of (setting_of task.now)) (candidates_at (setting_of task.now)
+        (base_of (setting_of task.now))) words.old 1 l) (K.written out.old) (K.written out.new) log.new) }
+    ensures err { OnErr result (WalkedSome (setting_of task.now)
+        (λ l. Branches (setting_of task.now) task.now.limit true (base_of (setting_of task.now))
+        (candidates_at (setting_of task.now) (base_of (setting_of task.now))) words.old 1 l) (K.written out.old)
+        (K.written out.new)) }
     ensures sink { IfErr result (λ e. SinkCause (K.faults out.old) (K.faults out.new) e) }
     ensures never_falls { K.faults out.old ≤ K.faults out.new }
 {

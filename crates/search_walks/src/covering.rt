@@ -31,7 +31,9 @@ fn mark_site(
     side: bool,
 ) -> bool
     requires { length covered.old.items ≡ 2 * length (checked.now).sites }
-    ensures { Marks covered.old.items covered.new.items (λ a. IsDecisionSite checked.now site × (token_in (checked.now).sites site ≡ token) × (a ≡ entry site side)) result }
+    ensures { Marks covered.old.items covered.new.items
+        (λ a. IsDecisionSite checked.now site × (token_in (checked.now).sites site ≡ token)
+        × (a ≡ entry site side)) result }
 {
     if is_decision_site(checked, site) && token_of(checked, site) == token {
         let first = 2 * site;
@@ -43,7 +45,8 @@ fn mark_site(
 /// Covers the outcome of the decision sites of a token; whether one of them wasn't covered.
 fn mark_sites(covered: &mut Vec<bool>, checked: &Checked, token: u32, side: bool) -> bool
     requires { length covered.old.items ≡ 2 * length (checked.now).sites }
-    ensures { Marks covered.old.items covered.new.items (IsAmong checked.now token side (length (checked.now).sites)) result }
+    ensures { Marks covered.old.items covered.new.items
+        (IsAmong checked.now token side (length (checked.now).sites)) result }
 {
     let mut is_new = false;
     for site in 0..checked.sites.len() {
@@ -71,7 +74,8 @@ fn mark_event(covered: &mut Vec<bool>, checked: &Checked, event: &Event) -> bool
 /// Covers the outcomes that events took; whether one of them wasn't covered.
 pub(crate) fn mark_events(covered: &mut Vec<bool>, checked: &Checked, events: &[Event]) -> bool
     requires { length covered.old.items ≡ 2 * length (checked.now).sites }
-    ensures { Marks covered.old.items covered.new.items (IsTakenUpTo checked.now events.now (length events.now)) result }
+    ensures { Marks covered.old.items covered.new.items
+        (IsTakenUpTo checked.now events.now (length events.now)) result }
 {
     let mut is_new = false;
     for event in events {

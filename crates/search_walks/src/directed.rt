@@ -1,13 +1,15 @@
 //! The control-flow directed walk, step by step.
 
-ghost use Rattle.std.specs.Prelude.{◌≡◌, ◌<◌, ◌≤◌, ◌+◌, ◌*◌, ◌∷◌, [], Bool, true, ℕ, List, Option as PlainOption, length, IfOk, IfErr, OnOk, OnErr};
+ghost use Rattle.std.specs.Prelude.{◌≡◌, ◌<◌, ◌≤◌, ◌+◌, ◌*◌, ◌∷◌, [], Bool, true, ℕ, List, Option as PlainOption};
+ghost use Rattle.std.specs.Prelude.{length, IfOk, IfErr, OnOk, OnErr};
 ghost use Rattle.search_walks.specs.Backwards.{FlowUpTo};
 ghost use Rattle.search_walks.specs.Counted.{Nothing};
 ghost use Rattle.search_walks.specs.Course.{Fresh, Ready, Led, Went, left, FromBase};
 ghost use Rattle.search_walks.specs.Distance.{entry};
 ghost use Rattle.search_walks.specs.Logged.{Walked, WalkedSome};
 ghost use Rattle.search_walks.specs.Made.{RunOf};
-ghost use Rattle.search_walks.specs.Nearest.{IsLeast, lesser, nearer, IsAtSite, IsAtToken, IsAtOffer, IsAtPlace, IsFirst};
+ghost use Rattle.search_walks.specs.Nearest.{IsLeast, lesser, nearer, IsAtSite, IsAtToken, IsAtOffer, IsAtPlace};
+ghost use Rattle.search_walks.specs.Nearest.{IsFirst};
 ghost use Rattle.search_base.specs.Lines.{SinkCause};
 ghost use Rattle.search_base.specs.Setting.{base_of};
 ghost use Rattle.search_walks.specs.Task.{setting_of, Known};
@@ -151,7 +153,9 @@ pub(crate) struct Course {
 impl Course {
     /// At a run, with all its alternatives.
     fn new(task: &Task<'_>, flow: &Flow, log: &Log, run: Made) -> Result<Course, NoMemory>
-        requires flow { FlowUpTo (task.now.checked).now (task.now.tac).now (length (task.now.tac).now.code) flow.now.before.rows.items flow.now.outcomes.rows.items flow.now.decisions.rows.items }
+        requires flow { FlowUpTo (task.now.checked).now (task.now.tac).now
+            (length (task.now.tac).now.code) flow.now.before.rows.items flow.now.outcomes.rows.items
+            flow.now.decisions.rows.items }
         requires run { RunOf (setting_of task.now) run.trace run.path }
         requires size { length log.now.covered.items ≡ 2 * length ((task.now.checked).now).sites }
         ensures { IfOk result (Fresh (setting_of task.now) (task.now.tac).now log.now run) }
@@ -170,12 +174,21 @@ impl Course {
         out: &mut K,
     ) -> Result<bool, SearchFault>
         requires known { Known task.now }
-        requires flow { FlowUpTo (task.now.checked).now (task.now.tac).now (length (task.now.tac).now.code) flow.now.before.rows.items flow.now.outcomes.rows.items flow.now.decisions.rows.items }
+        requires flow { FlowUpTo (task.now.checked).now (task.now.tac).now
+            (length (task.now.tac).now.code) flow.now.before.rows.items flow.now.outcomes.rows.items
+            flow.now.decisions.rows.items }
         requires ready { Ready (setting_of task.now) log.old self.old }
         ensures ready { OnOk result (Ready (setting_of task.now) log.new self.new) }
-        ensures fewer { IfOk result (λ b. b ≡ true → left task.now.limit log.new self.new < left task.now.limit log.old self.old) }
-        ensures ok { IfOk result (λ b. (start : PlainOption (List ℕ)) → Led (setting_of task.now) task.now.limit (task.now.tac).now start (K.written out.old) log.old self.old → Went (setting_of task.now) task.now.limit (task.now.tac).now start (K.written out.new) log.new self.new b) }
-        ensures err { OnErr result ((start : PlainOption (List ℕ)) → Led (setting_of task.now) task.now.limit (task.now.tac).now start (K.written out.old) log.old self.old → WalkedSome (setting_of task.now) (FromBase (setting_of task.now) task.now.limit (task.now.tac).now true) start (K.written out.new)) }
+        ensures fewer { IfOk result (λ b. b ≡ true
+            → left task.now.limit log.new self.new < left task.now.limit log.old self.old) }
+        ensures ok { IfOk result (λ b. (start : PlainOption (List ℕ))
+            → Led (setting_of task.now) task.now.limit (task.now.tac).now start (K.written out.old) log.old self.old
+            → Went (setting_of task.now) task.now.limit (task.now.tac).now start
+            (K.written out.new) log.new self.new b) }
+        ensures err { OnErr result ((start : PlainOption (List ℕ))
+            → Led (setting_of task.now) task.now.limit (task.now.tac).now start (K.written out.old) log.old self.old
+            → WalkedSome (setting_of task.now) (FromBase (setting_of task.now) task.now.limit
+            (task.now.tac).now true) start (K.written out.new)) }
         ensures sink { IfErr result (λ e. SinkCause (K.faults out.old) (K.faults out.new) e) }
         ensures never_falls { K.faults out.old ≤ K.faults out.new }
     {
@@ -205,8 +218,14 @@ pub(crate) fn directed_walk<K: Sink>(
     requires known { Known task.now }
     requires runs { 1 ≤ task.now.limit }
     requires nothing { Nothing (length ((task.now.checked).now).sites) log.old }
-    ensures ok { OnOk result ((cuts : Bool) → Walked (setting_of task.now) (λ l. Directed (setting_of task.now) task.now.limit cuts (task.now.tac).now (base_of (setting_of task.now)) (candidates_at (setting_of task.now) (base_of (setting_of task.now))) (base_of (setting_of task.now) ∷ []) 1 l) (K.written out.old) (K.written out.new) log.new) }
-    ensures err { OnErr result (WalkedSome (setting_of task.now) (λ l. Directed (setting_of task.now) task.now.limit true (task.now.tac).now (base_of (setting_of task.now)) (candidates_at (setting_of task.now) (base_of (setting_of task.now))) (base_of (setting_of task.now) ∷ []) 1 l) (K.written out.old) (K.written out.new)) }
+    ensures ok { OnOk result ((cuts : Bool)
+        → Walked (setting_of task.now) (λ l. Directed (setting_of task.now) task.now.limit cuts (task.now.tac).now
+        (base_of (setting_of task.now)) (candidates_at (setting_of task.now) (base_of (setting_of task.now)))
+        (base_of (setting_of task.now) ∷ []) 1 l) (K.written out.old) (K.written out.new) log.new) }
+    ensures err { OnErr result (WalkedSome (setting_of task.now)
+        (λ l. Directed (setting_of task.now) task.now.limit true (task.now.tac).now (base_of (setting_of task.now))
+        (candidates_at (setting_of task.now) (base_of (setting_of task.now))) (base_of (setting_of task.now) ∷ []) 1 l)
+        (K.written out.old) (K.written out.new)) }
     ensures sink { IfErr result (λ e. SinkCause (K.faults out.old) (K.faults out.new) e) }
     ensures never_falls { K.faults out.old ≤ K.faults out.new }
 {

@@ -46,7 +46,8 @@ impl Front {
 
     /// Passes an instruction, where it isn't passed.
     fn open(&mut self, at: usize) -> Result<(), NoMemory>
-        ensures { OnOk result (Opens self.old.passed.items self.old.open.items self.new.passed.items self.new.open.items (λ a. a ≡ at)) }
+        ensures { OnOk result (Opens self.old.passed.items self.old.open.items self.new.passed.items
+            self.new.open.items (λ a. a ≡ at)) }
     {
         if at < self.passed.len() && !self.passed[at] {
             self.passed[at] = true;
@@ -57,7 +58,8 @@ impl Front {
 
     /// Passes these instructions.
     fn open_all(&mut self, places: &[usize]) -> Result<(), NoMemory>
-        ensures { OnOk result (Opens self.old.passed.items self.old.open.items self.new.passed.items self.new.open.items (λ a. In a places.now)) }
+        ensures { OnOk result (Opens self.old.passed.items self.old.open.items self.new.passed.items
+            self.new.open.items (λ a. In a places.now)) }
     {
         for place in places {
             self.open(*place)?;
@@ -67,7 +69,8 @@ impl Front {
 
     /// Passes the decisions of these outcomes.
     fn open_decisions(&mut self, flow: &Flow, outcomes: &[usize]) -> Result<(), NoMemory>
-        ensures { OnOk result (Opens self.old.passed.items self.old.open.items self.new.passed.items self.new.open.items (DecisionsOf flow.now.decisions.rows.items outcomes.now)) }
+        ensures { OnOk result (Opens self.old.passed.items self.old.open.items self.new.passed.items
+            self.new.open.items (DecisionsOf flow.now.decisions.rows.items outcomes.now)) }
     {
         for outcome in outcomes {
             self.open_all(flow.decisions.of(*outcome / 2))?;
@@ -83,7 +86,9 @@ impl Front {
         next: &mut Vec<usize>,
         distance: u32,
     ) -> Result<(), NoMemory>
-        ensures passing { OnOk result (Passing flow.now.before.rows.items flow.now.outcomes.rows.items flow.now.decisions.rows.items distance distances.old.items self.old.passed.items self.old.open.items next.old.items distances.new.items self.new.passed.items self.new.open.items next.new.items) }
+        ensures passing { OnOk result (Passing flow.now.before.rows.items flow.now.outcomes.rows.items
+            flow.now.decisions.rows.items distance distances.old.items self.old.passed.items self.old.open.items
+            next.old.items distances.new.items self.new.passed.items self.new.open.items next.new.items) }
         ensures done { OnOk result (self.new.open.items ≡ []) }
     {
         while let Some(at) = self.open.pop() {
@@ -101,7 +106,8 @@ fn give(
     outcome: usize,
     distance: u32,
 ) -> Result<(), NoMemory>
-    ensures { OnOk result (Gives distance distances.old.items next.old.items distances.new.items next.new.items (λ o. o ≡ outcome)) }
+    ensures { OnOk result (Gives distance distances.old.items next.old.items distances.new.items next.new.items
+        (λ o. o ≡ outcome)) }
 {
     if outcome < distances.len() && distances[outcome].is_none() {
         distances[outcome] = Some(distance);
@@ -117,7 +123,8 @@ fn give_all(
     outcomes: &[usize],
     distance: u32,
 ) -> Result<(), NoMemory>
-    ensures { OnOk result (Gives distance distances.old.items next.old.items distances.new.items next.new.items (λ o. In o outcomes.now)) }
+    ensures { OnOk result (Gives distance distances.old.items next.old.items distances.new.items next.new.items
+        (λ o. In o outcomes.now)) }
 {
     for outcome in outcomes {
         give(distances, next, *outcome, distance)?;
@@ -130,7 +137,8 @@ impl Start {
     fn add(&mut self, checked: &Checked, covered: &[bool], outcome: usize) -> Result<(), NoMemory>
         requires within { outcome < length covered.now }
         requires before { Starts checked.now covered.now outcome self.old.distances.items self.old.next.items }
-        ensures { OnOk result (Starts checked.now covered.now (suc outcome) self.new.distances.items self.new.next.items) }
+        ensures { OnOk result (Starts checked.now covered.now
+            (suc outcome) self.new.distances.items self.new.next.items) }
     {
         if !covered[outcome] && is_decision_site(checked, outcome / 2) {
             self.distances.push(Some(0))?;
@@ -143,7 +151,8 @@ impl Start {
 
     /// The outcomes that aren't covered have the distance 0.
     fn new(alloc: Global, checked: &Checked, covered: &[bool]) -> Result<Start, NoMemory>
-        ensures { IfOk result (λ s. Starts checked.now covered.now (length covered.now) s.distances.items s.next.items) }
+        ensures { IfOk result (λ s. Starts checked.now covered.now
+            (length covered.now) s.distances.items s.next.items) }
     {
         let mut start = Start {
             distances: Vec::new(alloc),
@@ -165,7 +174,8 @@ pub(crate) fn distances_over(
     flow: &Flow,
 ) -> Result<Vec<Option<u32>>, NoMemory>
     requires covered { length covered.now ≡ 2 * length (checked.now).sites }
-    requires flow { FlowUpTo checked.now tac.now (length tac.now.code) flow.now.before.rows.items flow.now.outcomes.rows.items flow.now.decisions.rows.items }
+    requires flow { FlowUpTo checked.now tac.now
+        (length tac.now.code) flow.now.before.rows.items flow.now.outcomes.rows.items flow.now.decisions.rows.items }
     ensures { IfOk result (λ v. AreDistances checked.now tac.now covered.now v.items) }
 {
     let start = Start::new(alloc, checked, covered)?;
@@ -189,8 +199,9 @@ pub(crate) fn distances_over(
     Ok(distances)
 }
 
-/// The flow distance of each outcome of each site, F and then T: the least number of further decisions on a walk of flow edges from
-/// the outcome to one that isn't covered. None where there is no such walk, and where the site is no decision.
+/// The flow distance of each outcome of each site, F and then T: the least number of further decisions on a walk of
+/// flow edges from the outcome to one that isn't covered. None where there is no such walk, and where the site is no
+/// decision.
 pub fn distances(
     alloc: Global,
     checked: &Checked,

@@ -46,7 +46,8 @@ fn decision_of(instruction: Instr) -> Option<SiteId>
 
 /// Adds a number to each of these places.
 fn add_all(rows: &mut Rows, number: usize, places: &[u32]) -> Result<(), NoMemory>
-    ensures { OnOk result (Grows rows.old.rows.items rows.new.rows.items (IsAny rows.old.rows.items number places.now)) }
+    ensures { OnOk result (Grows rows.old.rows.items rows.new.rows.items
+        (IsAny rows.old.rows.items number places.now)) }
 {
     for place in places {
         rows.add(*place as usize, number)?;
@@ -90,9 +91,11 @@ impl Flow {
         at: u32,
         site: SiteId,
     ) -> Result<(), NoMemory>
-        requires before { FlowUpTo checked.now tac.now at self.old.before.rows.items self.old.outcomes.rows.items self.old.decisions.rows.items }
+        requires before { FlowUpTo checked.now tac.now at self.old.before.rows.items self.old.outcomes.rows.items
+            self.old.decisions.rows.items }
         requires decides { DecisionAt checked.now tac.now at site }
-        ensures { OnOk result (FlowUpTo checked.now tac.now (suc at) self.new.before.rows.items self.new.outcomes.rows.items self.new.decisions.rows.items) }
+        ensures { OnOk result (FlowUpTo checked.now tac.now
+            (suc at) self.new.before.rows.items self.new.outcomes.rows.items self.new.decisions.rows.items) }
     {
         if is_decision(checked, site) {
             self.decisions.add(site.0 as usize, at as usize)?;
@@ -112,11 +115,13 @@ impl Flow {
         at: u32,
         instruction: Instr,
     ) -> Result<(), NoMemory>
-        requires before { FlowUpTo checked.now tac.now at self.old.before.rows.items self.old.outcomes.rows.items self.old.decisions.rows.items }
+        requires before { FlowUpTo checked.now tac.now at self.old.before.rows.items self.old.outcomes.rows.items
+            self.old.decisions.rows.items }
         requires tables { AreReturns tac.now returns.now.firsts.items returns.now.behind.rows.items }
         requires is { slice_get tac.now.code at ≡ Some instruction }
         requires plain { IsPlain checked.now tac.now at }
-        ensures { OnOk result (FlowUpTo checked.now tac.now (suc at) self.new.before.rows.items self.new.outcomes.rows.items self.new.decisions.rows.items) }
+        ensures { OnOk result (FlowUpTo checked.now tac.now
+            (suc at) self.new.before.rows.items self.new.outcomes.rows.items self.new.decisions.rows.items) }
     {
         let _checked = checked;
         if let Instr::Return(_) = instruction {
@@ -136,10 +141,12 @@ impl Flow {
         at: u32,
         instruction: Instr,
     ) -> Result<(), NoMemory>
-        requires before { FlowUpTo checked.now tac.now at self.old.before.rows.items self.old.outcomes.rows.items self.old.decisions.rows.items }
+        requires before { FlowUpTo checked.now tac.now at self.old.before.rows.items self.old.outcomes.rows.items
+            self.old.decisions.rows.items }
         requires tables { AreReturns tac.now returns.now.firsts.items returns.now.behind.rows.items }
         requires is { slice_get tac.now.code at ≡ Some instruction }
-        ensures { OnOk result (FlowUpTo checked.now tac.now (suc at) self.new.before.rows.items self.new.outcomes.rows.items self.new.decisions.rows.items) }
+        ensures { OnOk result (FlowUpTo checked.now tac.now
+            (suc at) self.new.before.rows.items self.new.outcomes.rows.items self.new.decisions.rows.items) }
     {
         match decision_of(instruction) {
             Some(site) => self.add_decision(checked, tac, at, site),
@@ -149,7 +156,8 @@ impl Flow {
 
     /// The flow of a program's code.
     pub(crate) fn new(alloc: Global, checked: &Checked, tac: &Tac) -> Result<Flow, NoMemory>
-        ensures { IfOk result (λ f. FlowUpTo checked.now tac.now (length tac.now.code) f.before.rows.items f.outcomes.rows.items f.decisions.rows.items) }
+        ensures { IfOk result (λ f. FlowUpTo checked.now tac.now
+            (length tac.now.code) f.before.rows.items f.outcomes.rows.items f.decisions.rows.items) }
     {
         let length = tac.code.len();
         // Instructions are numbers of 32 bits.

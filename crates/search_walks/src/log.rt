@@ -1,6 +1,7 @@
 //! What a walk does at each step: it runs an input, or solves one, and lists what comes of it.
 
-ghost use Rattle.std.specs.Prelude.{◌≡◌, ◌<◌, ◌≤◌, ◌+◌, ◌*◌, ◌^◌, true, false, List, length, All, IfOk, IfErr, OnErr, count_by};
+ghost use Rattle.std.specs.Prelude.{◌≡◌, ◌<◌, ◌≤◌, ◌+◌, ◌*◌, ◌^◌, true, false, List, length, All, IfOk, IfErr, OnErr};
+ghost use Rattle.std.specs.Prelude.{count_by};
 ghost use Rattle.cc_base.specs.Outcomes.{HasByte};
 ghost use Rattle.cc_base.specs.Paths.{BeginsWith, In};
 ghost use Rattle.cc_model.specs.Listing.{Item};
@@ -51,7 +52,8 @@ pub struct Log {
     pub terms: Vec<FoundTerm>,
 }
 
-/// How a walk ended: its runs, how many outcomes of decisions they took, how many there are, and whether a run ended as a fault.
+/// How a walk ended: its runs, how many outcomes of decisions they took, how many there are, and whether a run ended as
+/// a fault.
 #[derive(Clone, Copy)]
 pub struct WalkSummary {
     pub runs: u64,
@@ -138,7 +140,8 @@ impl Log {
         requires run { RunOf (setting_of task.now) (run.now).trace (run.now).path }
         requires room { self.old.made < 4294967295 }
         requires size { length self.old.covered.items ≡ 2 * length ((task.now.checked).now).sites }
-        ensures { IfOk result (λ b. Counted (setting_of task.now) ((run.now).trace).input ((run.now).trace).end self.old self.new b) }
+        ensures { IfOk result (λ b. Counted (setting_of task.now) ((run.now).trace).input
+            ((run.now).trace).end self.old self.new b) }
     {
         add_terms(task.checked, run.trace.terms.as_slice(), &mut self.terms)?;
         self.made += 1;
@@ -155,8 +158,10 @@ impl Log {
         requires known { Known task.now }
         requires room { self.old.made < 4294967295 }
         requires size { length self.old.covered.items ≡ 2 * length ((task.now.checked).now).sites }
-        ensures ok { IfOk result (λ r. Started (setting_of task.now) (K.written out.old) (K.written out.new) self.old self.new r) }
-        ensures err { OnErr result (WritesPart (K.written out.old) (K.written out.new) (item_line (base_item (setting_of task.now)))) }
+        ensures ok { IfOk result (λ r. Started (setting_of task.now) (K.written out.old)
+            (K.written out.new) self.old self.new r) }
+        ensures err { OnErr result (WritesPart (K.written out.old) (K.written out.new)
+            (item_line (base_item (setting_of task.now)))) }
         ensures sink { IfErr result (λ e. SinkCause (K.faults out.old) (K.faults out.new) e) }
         ensures never_falls { K.faults out.old ≤ K.faults out.new }
     {
@@ -182,8 +187,10 @@ impl Log {
         requires prefix { All HasByte prefix.now }
         requires room { self.old.made < 4294967295 }
         requires size { length self.old.covered.items ≡ 2 * length ((task.now.checked).now).sites }
-        ensures ok { IfOk result (λ t. Followed (setting_of task.now) input.now prefix.now (K.written out.old) (K.written out.new) self.old self.new t) }
-        ensures err { OnErr result (FollowedSome (setting_of task.now) input.now prefix.now (K.written out.old) (K.written out.new)) }
+        ensures ok { IfOk result (λ t. Followed (setting_of task.now) input.now prefix.now (K.written out.old)
+            (K.written out.new) self.old self.new t) }
+        ensures err { OnErr result (FollowedSome (setting_of task.now) input.now prefix.now (K.written out.old)
+            (K.written out.new)) }
         ensures sink { IfErr result (λ e. SinkCause (K.faults out.old) (K.faults out.new) e) }
         ensures never_falls { K.faults out.old ≤ K.faults out.new }
     {
@@ -210,8 +217,10 @@ impl Log {
         requires offered { In outcome ((layer_of (setting_of task.now)).others ((run.now).trace).input event) }
         requires room { self.old.made < 4294967295 }
         requires size { length self.old.covered.items ≡ 2 * length ((task.now.checked).now).sites }
-        ensures ok { IfOk result (TriedOne (setting_of task.now) ((run.now).trace).input (event, outcome) (K.written out.old) (K.written out.new) self.old self.new) }
-        ensures err { OnErr result (TriedSome (setting_of task.now) ((run.now).trace).input (event, outcome) (K.written out.old) (K.written out.new)) }
+        ensures ok { IfOk result (TriedOne (setting_of task.now) ((run.now).trace).input (event, outcome)
+            (K.written out.old) (K.written out.new) self.old self.new) }
+        ensures err { OnErr result (TriedSome (setting_of task.now) ((run.now).trace).input (event, outcome)
+            (K.written out.old) (K.written out.new)) }
         ensures sink { IfErr result (λ e. SinkCause (K.faults out.old) (K.faults out.new) e) }
         ensures never_falls { K.faults out.old ≤ K.faults out.new }
     {
@@ -243,7 +252,8 @@ impl Log {
         task: &Task<'_>,
         out: &mut K,
     ) -> Result<WalkSummary, SearchFault>
-        ensures ok { IfOk result (λ w. (items : List Item) → Logged (setting_of task.now) items self.now → Finished (setting_of task.now) items (K.written out.old) (K.written out.new) w) }
+        ensures ok { IfOk result (λ w. (items : List Item) → Logged (setting_of task.now) items self.now
+            → Finished (setting_of task.now) items (K.written out.old) (K.written out.new) w) }
         ensures err { OnErr result (FinishedSome (K.written out.old) (K.written out.new)) }
         ensures sink { IfErr result (λ e. SinkCause (K.faults out.old) (K.faults out.new) e) }
         ensures never_falls { K.faults out.old ≤ K.faults out.new }

@@ -1,6 +1,7 @@
 //! The walk by passes over runs.
 
-ghost use Rattle.std.specs.Prelude.{◌≡◌, ◌⊎◌, ◌↔◌, IsTrue, ◌<◌, ◌≤◌, ◌+◌, ◌-◌, ◌*◌, ℕ, Bool, true, false, List, Option, length, slice_get, Some, IfOk, OnOk, OnErr, IfErr};
+ghost use Rattle.std.specs.Prelude.{◌≡◌, ◌⊎◌, ◌↔◌, IsTrue, ◌<◌, ◌≤◌, ◌+◌, ◌-◌, ◌*◌, ℕ, Bool, true, false, List, Option};
+ghost use Rattle.std.specs.Prelude.{length, slice_get, Some, IfOk, OnOk, OnErr, IfErr};
 ghost use Rattle.rand_pcg.specs.Lcg.{Lcg};
 ghost use Rattle.search_walks.specs.Counted.{Nothing};
 ghost use Rattle.search_walks.specs.Logged.{Walked, WalkedSome};
@@ -114,12 +115,22 @@ impl Standing {
         requires there { self.old.event < length (current_of self.old base.now).path }
         requires short { length (current_of self.old base.now).path ≤ 1024 }
         requires size { length log.old.covered.items ≡ 2 * length ((task.now.checked).now).sites }
-        ensures came { OnOk result ((start : Lcg) (before : Option (List ℕ)) (passes : ℕ) → PassesTo (setting_of task.now) task.now.limit start before passes ((current_of self.old base.now).trace).input self.old.event words.old log.old (K.written out.old) → PassesTo (setting_of task.now) task.now.limit start before passes ((current_of self.new base.now).trace).input self.new.event words.new log.new (K.written out.new)) }
+        ensures came { OnOk result ((start : Lcg) (before : Option (List ℕ)) (passes : ℕ)
+            → PassesTo (setting_of task.now) task.now.limit start before passes
+            ((current_of self.old base.now).trace).input self.old.event words.old log.old (K.written out.old)
+            → PassesTo (setting_of task.now) task.now.limit start before passes
+            ((current_of self.new base.now).trace).input self.new.event words.new log.new (K.written out.new)) }
         ensures stands { OnOk result (StandsAt (setting_of task.now) (current_of self.new base.now) self.new.event) }
         ensures within { OnOk result (log.new.made ≤ task.now.limit) }
         ensures size { OnOk result (length log.new.covered.items ≡ length log.old.covered.items) }
-        ensures falls { OnOk result (left_to_pass task.now.limit log.new.made (length (current_of self.new base.now).path) self.new.event < left_to_pass task.now.limit log.old.made (length (current_of self.old base.now).path) self.old.event) }
-        ensures err { OnErr result ((start : Lcg) (before : Option (List ℕ)) (passes : ℕ) → PassesTo (setting_of task.now) task.now.limit start before passes ((current_of self.old base.now).trace).input self.old.event words.old log.old (K.written out.old) → WalkedSome (setting_of task.now) (FromStart (setting_of task.now) task.now.limit start true) before (K.written out.new)) }
+        ensures falls { OnOk result (left_to_pass task.now.limit log.new.made
+            (length (current_of self.new base.now).path) self.new.event
+            < left_to_pass task.now.limit log.old.made (length (current_of self.old base.now).path) self.old.event) }
+        ensures err { OnErr result ((start : Lcg) (before : Option (List ℕ)) (passes : ℕ)
+            → PassesTo (setting_of task.now) task.now.limit start before passes
+            ((current_of self.old base.now).trace).input self.old.event words.old log.old (K.written out.old)
+            → WalkedSome (setting_of task.now) (FromStart (setting_of task.now) task.now.limit start true) before
+            (K.written out.new)) }
         ensures sink { IfErr result (λ e. SinkCause (K.faults out.old) (K.faults out.new) e) }
         ensures never_falls { K.faults out.old ≤ K.faults out.new }
     {
@@ -152,9 +163,16 @@ fn pass<K: Sink>(
     requires within { log.old.made ≤ task.now.limit }
     requires base { RunOf (setting_of task.now) (base.now).trace (base.now).path }
     requires size { length log.old.covered.items ≡ 2 * length ((task.now.checked).now).sites }
-    ensures passed { OnOk result ((start : Lcg) (before : Option (List ℕ)) (passes : ℕ) → PassesTo (setting_of task.now) task.now.limit start before passes ((base.now).trace).input 0 words.old log.old (K.written out.old) → Passed (setting_of task.now) task.now.limit start before passes words.new log.new (K.written out.new)) }
+    ensures passed { OnOk result ((start : Lcg) (before : Option (List ℕ)) (passes : ℕ)
+        → PassesTo (setting_of task.now) task.now.limit start before passes
+        ((base.now).trace).input 0 words.old log.old (K.written out.old)
+        → Passed (setting_of task.now) task.now.limit start before passes words.new log.new (K.written out.new)) }
     ensures within { OnOk result (log.new.made ≤ task.now.limit) }
-    ensures err { OnErr result ((start : Lcg) (before : Option (List ℕ)) (passes : ℕ) → PassesTo (setting_of task.now) task.now.limit start before passes ((base.now).trace).input 0 words.old log.old (K.written out.old) → WalkedSome (setting_of task.now) (FromStart (setting_of task.now) task.now.limit start true) before (K.written out.new)) }
+    ensures err { OnErr result ((start : Lcg) (before : Option (List ℕ)) (passes : ℕ)
+        → PassesTo (setting_of task.now) task.now.limit start before passes
+        ((base.now).trace).input 0 words.old log.old (K.written out.old)
+        → WalkedSome (setting_of task.now) (FromStart (setting_of task.now) task.now.limit start true) before
+        (K.written out.new)) }
     ensures sink { IfErr result (λ e. SinkCause (K.faults out.old) (K.faults out.new) e) }
     ensures never_falls { K.faults out.old ≤ K.faults out.new }
 {
@@ -192,8 +210,13 @@ pub(crate) fn uniform_walk<K: Sink>(
     requires known { Known task.now }
     requires runs { 1 ≤ task.now.limit }
     requires nothing { Nothing (length ((task.now.checked).now).sites) log.old }
-    ensures ok { OnOk result ((cuts : Bool) → Walked (setting_of task.now) (λ l. Passes (setting_of task.now) task.now.limit cuts (base_of (setting_of task.now)) 0 (task.now.limit - 1) words.old 1 l) (K.written out.old) (K.written out.new) log.new) }
-    ensures err { OnErr result (WalkedSome (setting_of task.now) (λ l. Passes (setting_of task.now) task.now.limit true (base_of (setting_of task.now)) 0 (task.now.limit - 1) words.old 1 l) (K.written out.old) (K.written out.new)) }
+    ensures ok { OnOk result ((cuts : Bool)
+        → Walked (setting_of task.now) (λ l. Passes (setting_of task.now) task.now.limit cuts
+        (base_of (setting_of task.now)) 0 (task.now.limit - 1) words.old 1 l) (K.written out.old)
+        (K.written out.new) log.new) }
+    ensures err { OnErr result (WalkedSome (setting_of task.now)
+        (λ l. Passes (setting_of task.now) task.now.limit true (base_of (setting_of task.now)) 0
+        (task.now.limit - 1) words.old 1 l) (K.written out.old) (K.written out.new)) }
     ensures sink { IfErr result (λ e. SinkCause (K.faults out.old) (K.faults out.new) e) }
     ensures never_falls { K.faults out.old ≤ K.faults out.new }
 {

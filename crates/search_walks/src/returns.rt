@@ -5,7 +5,8 @@ ghost use Rattle.cc_base.specs.Paths.{In};
 ghost use Rattle.tac_lower.specs.Finished.{first_in};
 ghost use Rattle.tac_lower.specs.Flow.{last_first, IsBehind};
 ghost use Rattle.search_walks.specs.Rows.{Grows};
-ghost use Rattle.search_walks.specs.Returns.{called, IsMarked, IsBehindAt, BeginsUpTo, FirstsUpTo, BehindUpTo, AreReturns};
+ghost use Rattle.search_walks.specs.Returns.{called, IsMarked, IsBehindAt, BeginsUpTo, FirstsUpTo, BehindUpTo};
+ghost use Rattle.search_walks.specs.Returns.{AreReturns};
 
 use crate::rows::Rows;
 use cc_model::base::NoMemory;

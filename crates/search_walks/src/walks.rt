@@ -43,8 +43,16 @@ pub fn random_branch<K: Sink>(
     requires compiles { Compiles (core_of checked.now) (map (seen checked.now) tac.now.code) (λ f. first_in tac.now f) }
     requires points { PointsToCells (core_of checked.now).layouts (params_of (core_of checked.now)) }
     requires runs { 1 ≤ runs }
-    ensures walked { IfOk result (λ w. WalkedWhole (setting checked.now bounds.now budget) (λ l. Branches (setting checked.now bounds.now budget) runs false (base_of (setting checked.now bounds.now budget)) (candidates_at (setting checked.now bounds.now budget) (base_of (setting checked.now bounds.now budget))) (seeded seed) 1 l) (K.written out.old) (K.written out.new) w) }
-    ensures part { OnErr result (WalkedPart (setting checked.now bounds.now budget) (λ l. Branches (setting checked.now bounds.now budget) runs true (base_of (setting checked.now bounds.now budget)) (candidates_at (setting checked.now bounds.now budget) (base_of (setting checked.now bounds.now budget))) (seeded seed) 1 l) (K.written out.old) (K.written out.new)) }
+    ensures walked { IfOk result (λ w. WalkedWhole (setting checked.now bounds.now budget)
+        (λ l. Branches (setting checked.now bounds.now budget) runs false
+        (base_of (setting checked.now bounds.now budget))
+        (candidates_at (setting checked.now bounds.now budget) (base_of (setting checked.now bounds.now budget)))
+        (seeded seed) 1 l) (K.written out.old) (K.written out.new) w) }
+    ensures part { OnErr result (WalkedPart (setting checked.now bounds.now budget)
+        (λ l. Branches (setting checked.now bounds.now budget) runs true
+        (base_of (setting checked.now bounds.now budget))
+        (candidates_at (setting checked.now bounds.now budget) (base_of (setting checked.now bounds.now budget)))
+        (seeded seed) 1 l) (K.written out.old) (K.written out.new)) }
     ensures sink { IfErr result (λ e. SinkCause (K.faults out.old) (K.faults out.new) e) }
     ensures never_falls { K.faults out.old ≤ K.faults out.new }
 {
@@ -79,8 +87,14 @@ pub fn uniform_random<K: Sink>(
     requires compiles { Compiles (core_of checked.now) (map (seen checked.now) tac.now.code) (λ f. first_in tac.now f) }
     requires points { PointsToCells (core_of checked.now).layouts (params_of (core_of checked.now)) }
     requires runs { 1 ≤ runs }
-    ensures walked { IfOk result (λ w. WalkedWhole (setting checked.now bounds.now budget) (λ l. Passes (setting checked.now bounds.now budget) runs false (base_of (setting checked.now bounds.now budget)) 0 (runs - 1) (seeded seed) 1 l) (K.written out.old) (K.written out.new) w) }
-    ensures part { OnErr result (WalkedPart (setting checked.now bounds.now budget) (λ l. Passes (setting checked.now bounds.now budget) runs true (base_of (setting checked.now bounds.now budget)) 0 (runs - 1) (seeded seed) 1 l) (K.written out.old) (K.written out.new)) }
+    ensures walked { IfOk result (λ w. WalkedWhole (setting checked.now bounds.now budget)
+        (λ l. Passes (setting checked.now bounds.now budget) runs false
+        (base_of (setting checked.now bounds.now budget)) 0 (runs - 1) (seeded seed) 1 l) (K.written out.old)
+        (K.written out.new) w) }
+    ensures part { OnErr result (WalkedPart (setting checked.now bounds.now budget)
+        (λ l. Passes (setting checked.now bounds.now budget) runs true
+        (base_of (setting checked.now bounds.now budget)) 0 (runs - 1) (seeded seed) 1 l) (K.written out.old)
+        (K.written out.new)) }
     ensures sink { IfErr result (λ e. SinkCause (K.faults out.old) (K.faults out.new) e) }
     ensures never_falls { K.faults out.old ≤ K.faults out.new }
 {
@@ -99,10 +113,11 @@ pub fn uniform_random<K: Sink>(
     log.finish(&task, out)
 }
 
-/// Walks by the flow of the code: of the current run's alternatives at decisions the one is taken from which the fewest further
-/// decisions lead to an outcome that no run took; on a tie the one at the earliest event. The seed isn't used.
+/// Walks by the flow of the code: of the current run's alternatives at decisions the one is taken from which the fewest
+/// further decisions lead to an outcome that no run took; on a tie the one at the earliest event. The seed isn't used.
 ///
-/// Each run is listed as it is made. The walk ends where no alternative leads there, or at once when `runs` runs were made.
+/// Each run is listed as it is made. The walk ends where no alternative leads there, or at once when `runs` runs were
+/// made.
 pub fn cfg_directed<K: Sink>(
     alloc: Global,
     checked: &Checked,
@@ -116,8 +131,16 @@ pub fn cfg_directed<K: Sink>(
     requires compiles { Compiles (core_of checked.now) (map (seen checked.now) tac.now.code) (λ f. first_in tac.now f) }
     requires points { PointsToCells (core_of checked.now).layouts (params_of (core_of checked.now)) }
     requires runs { 1 ≤ runs }
-    ensures walked { IfOk result (λ w. WalkedWhole (setting checked.now bounds.now budget) (λ l. Directed (setting checked.now bounds.now budget) runs false tac.now (base_of (setting checked.now bounds.now budget)) (candidates_at (setting checked.now bounds.now budget) (base_of (setting checked.now bounds.now budget))) (base_of (setting checked.now bounds.now budget) ∷ []) 1 l) (K.written out.old) (K.written out.new) w) }
-    ensures part { OnErr result (WalkedPart (setting checked.now bounds.now budget) (λ l. Directed (setting checked.now bounds.now budget) runs true tac.now (base_of (setting checked.now bounds.now budget)) (candidates_at (setting checked.now bounds.now budget) (base_of (setting checked.now bounds.now budget))) (base_of (setting checked.now bounds.now budget) ∷ []) 1 l) (K.written out.old) (K.written out.new)) }
+    ensures walked { IfOk result (λ w. WalkedWhole (setting checked.now bounds.now budget)
+        (λ l. Directed (setting checked.now bounds.now budget) runs false tac.now
+        (base_of (setting checked.now bounds.now budget))
+        (candidates_at (setting checked.now bounds.now budget) (base_of (setting checked.now bounds.now budget)))
+        (base_of (setting checked.now bounds.now budget) ∷ []) 1 l) (K.written out.old) (K.written out.new) w) }
+    ensures part { OnErr result (WalkedPart (setting checked.now bounds.now budget)
+        (λ l. Directed (setting checked.now bounds.now budget) runs true tac.now
+        (base_of (setting checked.now bounds.now budget))
+        (candidates_at (setting checked.now bounds.now budget) (base_of (setting checked.now bounds.now budget)))
+        (base_of (setting checked.now bounds.now budget) ∷ []) 1 l) (K.written out.old) (K.written out.new)) }
     ensures sink { IfErr result (λ e. SinkCause (K.faults out.old) (K.faults out.new) e) }
     ensures never_falls { K.faults out.old ≤ K.faults out.new }
 {

@@ -29,7 +29,8 @@ pub fn terms_of(atom: &Atom) -> &[FormTerm]
 
 /// States that each place of the terms is the same as a side.
 fn join_to(joins: &mut Vec<Atom>, side: PtrTerm, terms: &[FormTerm]) -> Result<(), AllocError>
-    ensures joined { OnOk result (atoms_of joins.new.items ≡ atoms_of joins.old.items ++ joined_to (side_of side) (multiples_of terms.now)) }
+    ensures joined { OnOk result (atoms_of joins.new.items
+        ≡ atoms_of joins.old.items ++ joined_to (side_of side) (multiples_of terms.now)) }
     ensures len { OnOk result (length joins.new.items ≡ length joins.old.items + length terms.now) }
 {
     for term in terms {
@@ -40,7 +41,8 @@ fn join_to(joins: &mut Vec<Atom>, side: PtrTerm, terms: &[FormTerm]) -> Result<(
 
 /// States that the places of an atom are the same as its first.
 fn join(joins: &mut Vec<Atom>, atom: &Atom) -> Result<(), AllocError>
-    ensures joined { OnOk result (atoms_of joins.new.items ≡ atoms_of joins.old.items ++ joined (form_of (atom_of atom.now)).terms) }
+    ensures joined { OnOk result (atoms_of joins.new.items
+        ≡ atoms_of joins.old.items ++ joined (form_of (atom_of atom.now)).terms) }
     ensures len { OnOk result (length joins.new.items ≤ length joins.old.items + 16) }
 {
     let terms = terms_of(atom);
@@ -52,7 +54,8 @@ fn join(joins: &mut Vec<Atom>, atom: &Atom) -> Result<(), AllocError>
 
 /// States so of each atom of the condition.
 fn join_all(joins: &mut Vec<Atom>, condition: &[Atom]) -> Result<(), AllocError>
-    ensures joined { OnOk result (atoms_of joins.new.items ≡ atoms_of joins.old.items ++ all_joined (atoms_of condition.now)) }
+    ensures joined { OnOk result (atoms_of joins.new.items
+        ≡ atoms_of joins.old.items ++ all_joined (atoms_of condition.now)) }
     ensures len { OnOk result (length joins.new.items ≤ length joins.old.items + 16 * length condition.now) }
 {
     for atom in condition {
@@ -63,7 +66,8 @@ fn join_all(joins: &mut Vec<Atom>, condition: &[Atom]) -> Result<(), AllocError>
 
 /// States that the places of the alternative are the same as NULL.
 fn join_to_null(joins: &mut Vec<Atom>, alternative: &[Atom]) -> Result<(), AllocError>
-    ensures joined { OnOk result (atoms_of joins.new.items ≡ atoms_of joins.old.items ++ all_null (atoms_of alternative.now)) }
+    ensures joined { OnOk result (atoms_of joins.new.items
+        ≡ atoms_of joins.old.items ++ all_null (atoms_of alternative.now)) }
     ensures len { OnOk result (length joins.new.items ≤ length joins.old.items + 16 * length alternative.now) }
 {
     for atom in alternative {
@@ -97,7 +101,8 @@ pub fn classes_of(
     requires few { length condition.now + length alternative.now < 2 ^ 28 }
     requires condition { BelowAll places (atoms_of condition.now) }
     requires alternative { BelowAll places (atoms_of alternative.now) }
-    ensures { IfOk result (λ classes. AreClasses (joins (atoms_of condition.now) (atoms_of alternative.now)) places classes) }
+    ensures { IfOk result (λ classes. AreClasses
+        (joins (atoms_of condition.now) (atoms_of alternative.now)) places classes) }
 {
     let joins = joins_of(alloc, condition, alternative)?;
     match solve_pointers(alloc, places, &joins) {

@@ -67,7 +67,8 @@ pub fn push_linear(
     out: &mut Vec<LinearAtom>,
     atoms: &[Atom],
 ) -> Result<(), AllocError>
-    ensures { (l : List PlainAtom) → AreLinear l out.old.items → OnOk result (AreLinear (l ++ atoms_of atoms.now) out.new.items) }
+    ensures { (l : List PlainAtom) → AreLinear l out.old.items
+        → OnOk result (AreLinear (l ++ atoms_of atoms.now) out.new.items) }
 {
     for atom in atoms {
         out.push(linear_of(alloc, atom)?)?;

@@ -72,8 +72,10 @@ pub fn solve_slice(
     requires few { length condition.now + length alternative.now < 2 ^ 28 }
     requires condition { BelowAll places (atoms_of condition.now) }
     requires alternative { BelowAll places (atoms_of alternative.now) }
-    ensures right { IfOk result (λ s. Right (bounds.now).lo (bounds.now).hi budget (slice_of (atoms_of condition.now) (atoms_of alternative.now)) (answer_of s)) }
-    ensures given { IfOk result (λ s. Given (bounds.now).lo (bounds.now).hi places (slice_of (atoms_of condition.now) (atoms_of alternative.now)) s) }
+    ensures right { IfOk result (λ s. Right (bounds.now).lo (bounds.now).hi budget
+        (slice_of (atoms_of condition.now) (atoms_of alternative.now)) (answer_of s)) }
+    ensures given { IfOk result (λ s. Given (bounds.now).lo (bounds.now).hi places
+        (slice_of (atoms_of condition.now) (atoms_of alternative.now)) s) }
 {
     let atoms = slice(alloc, places, condition, alternative)?;
     solve_linear(alloc, places, &atoms, bounds, budget)

@@ -1,11 +1,13 @@
 //! Linear forms over places.
 
-ghost use Rattle.std.specs.Prelude.{◌≡◌, ◌≢◌, ◌≤◌, ◌<◌, ◌^◌, ℕ, ℤ, pos, ◌+ℤ◌, ◌-ℤ◌, ◌*ℤ◌, neg_ℤ, ◌↔◌, unsigned_abs, length, map, [], IfOk, OnErr, IfSome, IfNone, IsTrue, OkIff};
+ghost use Rattle.std.specs.Prelude.{◌≡◌, ◌≢◌, ◌≤◌, ◌<◌, ◌^◌, ℕ, ℤ, pos, ◌+ℤ◌, ◌-ℤ◌, ◌*ℤ◌, neg_ℤ, ◌↔◌, unsigned_abs};
+ghost use Rattle.std.specs.Prelude.{length, map, [], IfOk, OnErr, IfSome, IfNone, IsTrue, OkIff};
 ghost use Rattle.std.specs.List.{All};
 ghost use Rattle.sym_expr.specs.TermsSeen.{multiple_of, multiples_of};
 ghost use Rattle.cc_base.specs.Places.{at_place};
 ghost use Rattle.cc_base.specs.Holds.{total, value_of_form, or_zero};
-ghost use Rattle.sym_expr.specs.Sums.{AllSmall, form_with, sum_of, difference_of, opposite_of, multiple_of_form, shifted, number_form, place_form, scaled, IsNarrow, IsForm, negated, Ascending};
+ghost use Rattle.sym_expr.specs.Sums.{AllSmall, form_with, sum_of, difference_of, opposite_of, multiple_of_form};
+ghost use Rattle.sym_expr.specs.Sums.{shifted, number_form, place_form, scaled, IsNarrow, IsForm, negated, Ascending};
 
 use crate::merging::{Terms, merged, push_all, push_unless_zero};
 use crate::places::{PlaceId, Places};
@@ -272,7 +274,8 @@ fn all_small(terms: &[FormTerm]) -> bool
 fn narrowed(constant: i128, terms: &[FormTerm]) -> Result<Form, Wide>
     requires ascending { Ascending (multiples_of terms.now) }
     requires not_zero { All (λ t. t.coefficient ≢ pos 0) (multiples_of terms.now) }
-    ensures { OkIff result (IsNarrow (form_with constant (multiples_of terms.now))) (form_with constant (multiples_of terms.now)) }
+    ensures { OkIff result (IsNarrow (form_with constant (multiples_of terms.now)))
+        (form_with constant (multiples_of terms.now)) }
 {
     if constant.unsigned_abs() > CONSTANT_LIMIT {
         return Err(Wide);

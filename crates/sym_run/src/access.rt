@@ -1,6 +1,7 @@
 //! Accesses through pointers.
 
-ghost use Rattle.std.specs.Prelude.{List, ℕ, ℤ, pos, ◌≤ℤ◌, nat_abs, ◌≡◌, ◌++◌, ◌∷◌, [], ◌<◌, ◌≤◌, ◌-◌, ◌^◌, suc, map, length, drop, Some, slice_get, unwrap_or, IfSome, IfOk, OnOk};
+ghost use Rattle.std.specs.Prelude.{List, ℕ, ℤ, pos, ◌≤ℤ◌, nat_abs, ◌≡◌, ◌++◌, ◌∷◌, [], ◌<◌, ◌≤◌, ◌-◌, ◌^◌, suc, map};
+ghost use Rattle.std.specs.Prelude.{length, drop, Some, slice_get, unwrap_or, IfSome, IfOk, OnOk};
 ghost use Rattle.cc_base.specs.Paths.{In};
 ghost use Rattle.cc_base.specs.declared.cells.CellTy.{CellTy};
 ghost use Rattle.checked_memory.specs.Contents.{IsTouched};
@@ -146,8 +147,9 @@ pub(crate) fn new_cells(
 }
 
 impl Objects {
-    /// Takes in the block at an address, by the pointer with a place that reaches it: `numbers` are the input's cells from that
-    /// address on. No memory, too, where 26 blocks are touched, the place isn't there, or there are fewer numbers than cells.
+    /// Takes in the block at an address, by the pointer with a place that reaches it: `numbers` are the input's cells
+    /// from that address on. No memory, too, where 26 blocks are touched, the place isn't there, or there are fewer
+    /// numbers than cells.
     fn touch(
         &mut self,
         alloc: Global,
@@ -158,10 +160,13 @@ impl Objects {
         pointer: First,
     ) -> Result<(), NoMemory>
         requires { ¬ IsTouched address self.old.memory.touched }
-        ensures touched { OnOk result ((start : plain.Data) (named : List Named) (d : traced.Data) (layouts : ℕ → List core.Cell)
-            → Remembers start named symbols.old self.old d → layouts pointer.ty.0 ≡ map cell_of layout.now → pos 0 ≤ℤ address
+        ensures touched { OnOk result ((start : plain.Data) (named : List Named) (d : traced.Data)
+            (layouts : ℕ → List core.Cell)
+            → Remembers start named symbols.old self.old d → layouts pointer.ty.0 ≡ map cell_of layout.now
+            → pos 0 ≤ℤ address
             → start.blocks (nat_abs address) ≡ values_from (map cell_of layout.now) numbers.now
-            → ((i : ℕ) (c : CellTy) (z : ℤ) → slice_get layout.now i ≡ Some c → slice_get numbers.now i ≡ Some z → MayHold named c z)
+            → ((i : ℕ) (c : CellTy) (z : ℤ) → slice_get layout.now i ≡ Some c → slice_get numbers.now i ≡ Some z
+            → MayHold named c z)
             → Remembers start named symbols.new self.new (with_touched layouts (nat_abs address) pointer d)) }
         ensures symbols { OnOk result (Grows symbols.old symbols.new) }
         ensures names { OnOk result (names_in self.new ≡ names_in self.old ++ nat_abs address ∷ []) }
@@ -197,10 +202,16 @@ impl Objects {
         beside: First,
     ) -> Result<Cell, NoMemory>
         requires { Some beside ≡ place_in (cell_shadow symbols.old pointer) }
-        ensures value { IfOk result (λ cell. (start : plain.Data) (named : List Named) (d : traced.Data) → Remembers start named symbols.old self.now d
-            → traced_of symbols.new cell ≡ record { plain = value_of pointer.value; shadow = traced.reached_shadow (Outcome.Object rank) (cell_shadow symbols.old pointer) (d.shadows).touched }) }
+        ensures value { IfOk result (λ cell. (start : plain.Data) (named : List Named) (d : traced.Data)
+            → Remembers start named symbols.old self.now d
+            → traced_of symbols.new cell ≡ record {
+              plain = value_of pointer.value;
+              shadow = traced.reached_shadow
+                  (Outcome.Object rank) (cell_shadow symbols.old pointer) (d.shadows).touched;
+            }) }
         ensures symbols { OnOk result (Grows symbols.old symbols.new) }
-        ensures kept { IfOk result (λ cell. (cell.value ≡ pointer.value) × (pointer.shadow ≤ length symbols.old → cell.shadow ≤ length symbols.new)) }
+        ensures kept { IfOk result (λ cell. (cell.value ≡ pointer.value)
+            × (pointer.shadow ≤ length symbols.old → cell.shadow ≤ length symbols.new)) }
     {
         match first_at(self.firsts.as_slice(), rank) {
             None => Ok(pointer),
@@ -224,10 +235,16 @@ impl Objects {
         rank: u8,
         pointer: Cell,
     ) -> Result<Cell, NoMemory>
-        ensures value { IfOk result (λ cell. (start : plain.Data) (named : List Named) (d : traced.Data) → Remembers start named symbols.old self.now d
-            → traced_of symbols.new cell ≡ record { plain = value_of pointer.value; shadow = traced.reached_shadow (Outcome.Object rank) (cell_shadow symbols.old pointer) (d.shadows).touched }) }
+        ensures value { IfOk result (λ cell. (start : plain.Data) (named : List Named) (d : traced.Data)
+            → Remembers start named symbols.old self.now d
+            → traced_of symbols.new cell ≡ record {
+              plain = value_of pointer.value;
+              shadow = traced.reached_shadow
+                  (Outcome.Object rank) (cell_shadow symbols.old pointer) (d.shadows).touched;
+            }) }
         ensures symbols { OnOk result (Grows symbols.old symbols.new) }
-        ensures kept { IfOk result (λ cell. (cell.value ≡ pointer.value) × (pointer.shadow ≤ length symbols.old → cell.shadow ≤ length symbols.new)) }
+        ensures kept { IfOk result (λ cell. (cell.value ≡ pointer.value)
+            × (pointer.shadow ≤ length symbols.old → cell.shadow ≤ length symbols.new)) }
     {
         match place_beside(symbols, pointer) {
             Some(beside) => self.reached_by(symbols, rank, pointer, beside),
@@ -235,8 +252,8 @@ impl Objects {
         }
     }
 
-    /// Takes in the block at an address to which a pointer points. No memory, too, where no place stands beside the pointer,
-    /// or where the input has no block there.
+    /// Takes in the block at an address to which a pointer points. No memory, too, where no place stands beside the
+    /// pointer, or where the input has no block there.
     fn touch_new(
         &mut self,
         alloc: Global,
@@ -247,9 +264,11 @@ impl Objects {
         address: i64,
     ) -> Result<(), NoMemory>
         requires { ¬ IsTouched address self.old.memory.touched }
-        ensures touched { OnOk result ((start : plain.Data) (named : List Named) (d : traced.Data) (layout_of : ℕ → List core.Cell) (pointer : First)
+        ensures touched { OnOk result ((start : plain.Data) (named : List Named) (d : traced.Data)
+            (layout_of : ℕ → List core.Cell) (pointer : First)
             → HasBlocks layouts.now input.now layout_of named start → Remembers start named symbols.old self.old d
-            → Some pointer ≡ place_in (cell_shadow symbols.old at) → pos 0 ≤ℤ address → In (record { address = nat_abs address; type = pointer.ty.0 }) named
+            → Some pointer ≡ place_in (cell_shadow symbols.old at) → pos 0 ≤ℤ address
+            → In (record { address = nat_abs address; type = pointer.ty.0 }) named
             → Remembers start named symbols.new self.new (with_touched layout_of (nat_abs address) pointer d)) }
         ensures symbols { OnOk result (Grows symbols.old symbols.new) }
         ensures names { OnOk result (names_in self.new ≡ names_in self.old ++ nat_abs address ∷ []) }
@@ -275,9 +294,11 @@ impl Objects {
         address: i64,
         rank: u8,
     ) -> Result<Cell, NoMemory>
-        ensures reaches { IfOk result (λ cell. (start : plain.Data) (named : List Named) (d : traced.Data) (layout_of : ℕ → List core.Cell) (i : ℕ)
+        ensures reaches { IfOk result (λ cell. (start : plain.Data) (named : List Named) (d : traced.Data)
+            (layout_of : ℕ → List core.Cell) (i : ℕ)
             → HasBlocks layouts.now input.now layout_of named start → Remembers start named symbols.old self.old d
-            → at.value ≡ Value.Block address i → IsKnown named (names_in self.old) symbols.old at → rank ≡ plain.rank (nat_abs address) (names_in self.old)
+            → at.value ≡ Value.Block address i → IsKnown named (names_in self.old) symbols.old at
+            → rank ≡ plain.rank (nat_abs address) (names_in self.old)
             → Reaches start named symbols.new self.new cell (accessed layout_of symbols.old at d)) }
         ensures symbols { OnOk result (Grows symbols.old symbols.new) }
         ensures names { OnOk result ((more : List ℕ) × (names_in self.new ≡ names_in self.old ++ more)) }
@@ -291,8 +312,8 @@ impl Objects {
         }
     }
 
-    /// An access through a pointer: its outcome, what it asks, and the pointer to the object that it reaches. No memory, too,
-    /// where a block more than 26 would be touched.
+    /// An access through a pointer: its outcome, what it asks, and the pointer to the object that it reaches. No
+    /// memory, too, where a block more than 26 would be touched.
     pub fn access(
         &mut self,
         alloc: Global,
@@ -301,8 +322,10 @@ impl Objects {
         input: &Input,
         at: Cell,
     ) -> Result<Acted, NoMemory>
-        ensures follows { IfOk result (λ r. (start : plain.Data) (named : List Named) (d : traced.Data) (layout_of : ℕ → List core.Cell)
-            → HasBlocks layouts.now input.now layout_of named start → Remembers start named symbols.old self.old d → IsKnown named (names_in self.old) symbols.old at
+        ensures follows { IfOk result (λ r. (start : plain.Data) (named : List Named) (d : traced.Data)
+            (layout_of : ℕ → List core.Cell)
+            → HasBlocks layouts.now input.now layout_of named start → Remembers start named symbols.old self.old d
+            → IsKnown named (names_in self.old) symbols.old at
             → Follows start named symbols.new self.new r (accessed layout_of symbols.old at d)) }
         ensures symbols { OnOk result (Grows symbols.old symbols.new) }
         ensures names { OnOk result ((more : List ℕ) × (names_in self.new ≡ names_in self.old ++ more)) }

@@ -1,6 +1,7 @@
 //! Calls and returns.
 
-ghost use Rattle.std.specs.Prelude.{◌≡◌, ◌+◌, ◌<◌, ◌^◌, ◌++◌, ◌∷◌, [], ℕ, suc, Some, length, slice_get, slice_set, IfOk, OnOk};
+ghost use Rattle.std.specs.Prelude.{◌≡◌, ◌+◌, ◌<◌, ◌^◌, ◌++◌, ◌∷◌, [], ℕ, suc, Some, length, slice_get, slice_set};
+ghost use Rattle.std.specs.Prelude.{IfOk, OnOk};
 ghost use Rattle.checked_memory.specs.declared.values.Cell.{Cell as PlainCell};
 ghost use Rattle.cc_model.specs.Instructions.{i_call, i_return};
 ghost use Rattle.sym_run.specs.Passing.{PassedOne, PassedAll, Entered};
@@ -63,7 +64,8 @@ fn code_of(fixed: &Fixed<'_>, function: u32) -> Result<TacFunc, NoMemory>
 impl Machine {
     /// Goes on where a caller waits, with a result. No memory, too, where the caller doesn't have the temporary.
     fn resume(&mut self, frame: Frame, cell: Cell) -> Result<(), NoMemory>
-        ensures { OnOk result (self.new ≡ record self.old { pc = frame.back; temps = slice_set frame.temps frame.dst cell; slots = frame.slots }) }
+        ensures { OnOk result (self.new ≡ record
+            self.old { pc = frame.back; temps = slice_set frame.temps frame.dst cell; slots = frame.slots }) }
     {
         let Frame {
             dst,
@@ -97,7 +99,8 @@ impl Machine {
 
     /// The cells in `count` temporaries from one on. No memory, too, where one of them isn't there.
     fn arguments(&self, alloc: Global, first: u32, count: u32) -> Result<Items<Cell>, NoMemory>
-        ensures cells { IfOk result (λ l. (n : ℕ) (c : PlainCell) → slice_get l n ≡ Some c → slice_get self.now.temps (first + n) ≡ Some c) }
+        ensures cells { IfOk result (λ l. (n : ℕ) (c : PlainCell) → slice_get l n ≡ Some c
+            → slice_get self.now.temps (first + n) ≡ Some c) }
         ensures count { IfOk result (λ l. length l ≡ count) }
     {
         let mut cells = Items::new(alloc);
@@ -117,7 +120,14 @@ impl Machine {
         temps: Items<Cell>,
         slots: Items<Option<Cell>>,
     ) -> Result<(), NoMemory>
-        ensures { OnOk result (self.new ≡ record self.old { pc = at; temps = temps; slots = slots; stack = self.old.stack ++ record { dst = dst; back = suc self.old.pc; temps = self.old.temps; slots = self.old.slots } ∷ [] }) }
+        ensures { OnOk result (self.new ≡ record
+            self.old {
+              pc = at;
+              temps = temps;
+              slots = slots;
+              stack = self.old.stack
+                  ++ record { dst = dst; back = suc self.old.pc; temps = self.old.temps; slots = self.old.slots } ∷ [];
+            }) }
     {
         let Some(back) = self.pc.checked_add(1) else {
             return Err(NoMemory);
@@ -136,7 +146,8 @@ impl Machine {
 
     /// Into a function, whose caller waits. No memory, too, where there is no such function.
     fn enter(&mut self, fixed: &Fixed<'_>, dst: u32, function: u32) -> Result<(), NoMemory>
-        ensures { OnOk result (Entered (setting fixed.now.checked.now fixed.now.tac.now fixed.now.bounds.now fixed.now.input.now) self.old self.new dst function) }
+        ensures { OnOk result (Entered (setting fixed.now.checked.now fixed.now.tac.now fixed.now.bounds.now
+            fixed.now.input.now) self.old self.new dst function) }
     {
         let code = code_of(fixed, function)?;
         let temps = nulls(fixed.alloc, code.temps)?;
@@ -158,7 +169,8 @@ impl Machine {
         Ok(true)
     }
 
-    /// Passes arguments to parameters, one for one, as long as there are both; false where no step is left for the next one.
+    /// Passes arguments to parameters, one for one, as long as there are both; false where no step is left for the next
+    /// one.
     fn pass_all(
         &mut self,
         alloc: Global,
@@ -192,7 +204,8 @@ impl Machine {
         first: u32,
         count: u32,
     ) -> Result<Option<End>, NoMemory>
-        ensures { IfOk result (λ end. Did (setting fixed.now.checked.now fixed.now.tac.now fixed.now.bounds.now fixed.now.input.now) self.old self.new (i_call dst function first count) end) }
+        ensures { IfOk result (λ end. Did (setting fixed.now.checked.now fixed.now.tac.now fixed.now.bounds.now
+            fixed.now.input.now) self.old self.new (i_call dst function first count) end) }
     {
         let types = param_types(fixed.alloc, fixed.checked, function)?;
         let cells = self.arguments(fixed.alloc, first, count)?;

@@ -72,9 +72,12 @@ impl Objects {
     ) -> Result<Decided, NoMemory>
         requires left { IsCell symbols.now a }
         requires right { IsCell symbols.now b }
-        ensures outcome { IfOk result (λ r. r.outcome ≡ plain.decision_of (plain.compare_ptr (cmp_of comparison) (value_of a.value) (value_of b.value))) }
-        ensures asked { IfOk result (λ r. (start : plain.Data) (named : List Named) (d : traced.Data) → Remembers start named symbols.now self.now d
-            → asked_of r.asked ≡ traced.pointers_asked (cmp_of comparison) (traced_of symbols.now a) (traced_of symbols.now b) (d.plain).touched (d.shadows).touched) }
+        ensures outcome { IfOk result (λ r. r.outcome
+            ≡ plain.decision_of (plain.compare_ptr (cmp_of comparison) (value_of a.value) (value_of b.value))) }
+        ensures asked { IfOk result (λ r. (start : plain.Data) (named : List Named) (d : traced.Data)
+            → Remembers start named symbols.now self.now d
+            → asked_of r.asked ≡ traced.pointers_asked (cmp_of comparison) (traced_of symbols.now a)
+            (traced_of symbols.now b) (d.plain).touched (d.shadows).touched) }
     {
         let differ = is_unequal(comparison);
         let asked = self.pointers_asked(alloc, symbols, differ, a, b)?;
@@ -98,8 +101,10 @@ impl Objects {
     ) -> Result<Decided, NoMemory>
         requires left { IsCell symbols.now a }
         requires right { IsCell symbols.now b }
-        ensures { IfOk result (λ r. (start : plain.Data) (named : List Named) (d : traced.Data) (layout_of : ℕ → List core.Cell)
-            → Remembers start named symbols.now self.now d → IsKnown named (names_in self.now) symbols.now a → IsKnown named (names_in self.now) symbols.now b
+        ensures { IfOk result (λ r. (start : plain.Data) (named : List Named) (d : traced.Data)
+            (layout_of : ℕ → List core.Cell)
+            → Remembers start named symbols.now self.now d → IsKnown named (names_in self.now) symbols.now a
+            → IsKnown named (names_in self.now) symbols.now b
             → IsDecided r (compared layout_of (cmp_of comparison) symbols.now a b d)) }
     {
         if is_number(a.value) {
@@ -118,7 +123,8 @@ impl Objects {
 /// The test whether a number isn't 0, or a pointer isn't NULL.
 pub fn test(alloc: Global, symbols: &Symbols, a: Cell) -> Result<Decided, NoMemory>
     requires { IsCell symbols.now a }
-    ensures { IfOk result (λ r. (named : List Named) (touched : List ℕ) (d : traced.Data) (layout_of : ℕ → List core.Cell)
+    ensures { IfOk result (λ r. (named : List Named) (touched : List ℕ) (d : traced.Data)
+        (layout_of : ℕ → List core.Cell)
         → IsKnown named touched symbols.now a → IsDecided r (tested layout_of symbols.now a d)) }
 {
     if is_number(a.value) {

@@ -1,6 +1,7 @@
 //! Events, as the machine meets them.
 
-ghost use Rattle.std.specs.Prelude.{◌≡◌, ◌≢◌, ◌++◌, ◌∷◌, [], ℕ, List, Option, Some, None, Bool, true, false, suc, pos, length, IfOk, OnOk};
+ghost use Rattle.std.specs.Prelude.{◌≡◌, ◌≢◌, ◌++◌, ◌∷◌, [], ℕ, List, Option, Some, None, Bool, true, false, suc, pos};
+ghost use Rattle.std.specs.Prelude.{length, IfOk, OnOk};
 ghost use Rattle.std.specs.Option.{option_map};
 ghost use Rattle.cc_model.specs.declared.checked.Checked.{Checked as PlainChecked};
 ghost use Rattle.cc_model.specs.CheckedProgram.{core_of};
@@ -110,9 +111,11 @@ impl Machine {
         places: u32,
     ) -> Result<(), NoMemory>
         ensures left { OnOk result (self.old.events_left ≡ suc self.new.events_left) }
-        ensures kept { OnOk result (self.new ≡ record self.old { events_left = self.new.events_left; journal = self.new.journal }) }
+        ensures kept { OnOk result (self.new
+            ≡ record self.old { events_left = self.new.events_left; journal = self.new.journal }) }
         ensures journal { OnOk result ((c : PlainChecked) (l : List (Entry traced.Event)) (a : Entry traced.Event)
-            → IsSite c site a.kind a.token → (a.event).outcome ≡ outcome → (a.event).asked ≡ asked_of asked → length (a.event).places ≡ places
+            → IsSite c site a.kind a.token → (a.event).outcome ≡ outcome → (a.event).asked ≡ asked_of asked
+            → length (a.event).places ≡ places
             → IsJournal c l self.old.journal → IsJournal c (l ++ a ∷ []) self.new.journal) }
     {
         if self.events_left == 0 {
@@ -141,7 +144,10 @@ impl Machine {
         dst: Option<u32>,
         acted: Acted,
     ) -> Result<Option<End>, NoMemory>
-        ensures { IfOk result (λ end. Settled (setting fixed.now.checked.now fixed.now.tac.now fixed.now.bounds.now fixed.now.input.now) self.old self.new spot.kind spot.fault (site_token fixed.now.checked.now spot.kind spot.site) dst acted.outcome acted.asked acted.cell end) }
+        ensures { IfOk result (λ end. Settled
+            (setting fixed.now.checked.now fixed.now.tac.now fixed.now.bounds.now fixed.now.input.now) self.old
+            self.new spot.kind spot.fault (site_token fixed.now.checked.now spot.kind spot.site) dst acted.outcome
+            acted.asked acted.cell end) }
     {
         if self.events_left == 0 {
             return Ok(Some(End::Cut));
@@ -169,7 +175,9 @@ impl Machine {
         dst: u32,
         decided: Decided,
     ) -> Result<Option<End>, NoMemory>
-        ensures { IfOk result (λ end. DecidedAt (setting fixed.now.checked.now fixed.now.tac.now fixed.now.bounds.now fixed.now.input.now) self.old self.new (site_token fixed.now.checked.now SiteKind.Decision site) dst decided.outcome decided.asked end) }
+        ensures { IfOk result (λ end. DecidedAt
+            (setting fixed.now.checked.now fixed.now.tac.now fixed.now.bounds.now fixed.now.input.now) self.old
+            self.new (site_token fixed.now.checked.now SiteKind.Decision site) dst decided.outcome decided.asked end) }
     {
         if self.events_left == 0 {
             return Ok(Some(End::Cut));

@@ -46,7 +46,8 @@ fn add_global(
     start: Option<GlobalStart>,
     types: &[CellTy],
 ) -> Result<(), NoMemory>
-    ensures cells { OnOk result ((c : PlainChecked) → cells.new ≡ cells.old ++ cells_starting (map (start_of c start) (map cell_of types.now))) }
+    ensures cells { OnOk result ((c : PlainChecked)
+        → cells.new ≡ cells.old ++ cells_starting (map (start_of c start) (map cell_of types.now))) }
     ensures values { OnOk result (Every (λ c. IsValue c.value) cells.old → Every (λ c. IsValue c.value) cells.new) }
 {
     for ty in types {
@@ -102,7 +103,9 @@ fn add_item(
     item: &Item,
     first: usize,
 ) -> Result<usize, NoMemory>
-    ensures cells { OnOk result (cells.new ≡ cells.old ++ cells_starting (starts_of checked.now (global_parts checked.now item.now) (drop first checked.now.globals))) }
+    ensures cells { OnOk result (cells.new
+        ≡ cells.old ++ cells_starting (starts_of checked.now (global_parts checked.now item.now)
+        (drop first checked.now.globals))) }
     ensures values { OnOk result (Every (λ c. IsValue c.value) cells.old → Every (λ c. IsValue c.value) cells.new) }
     ensures next { IfOk result (λ n. n ≡ first + length (global_parts checked.now item.now)) }
 {

@@ -2,7 +2,8 @@
 
 ghost use Rattle.std.specs.Prelude.{◌≡◌, suc, IfOk};
 ghost use Rattle.cc_model.specs.Compiles.{is_zero};
-ghost use Rattle.cc_model.specs.Instructions.{i_step, i_number, i_nil, i_copy, i_jump, i_jump_zero, i_unless, i_stop, i_slot, i_global};
+ghost use Rattle.cc_model.specs.Instructions.{i_step, i_number, i_nil, i_copy, i_jump, i_jump_zero, i_unless, i_stop};
+ghost use Rattle.cc_model.specs.Instructions.{i_slot, i_global};
 ghost use Rattle.sym_run.specs.Beside.{value_of};
 ghost use Rattle.sym_run.specs.Stands.{Setting, Did};
 

@@ -59,8 +59,12 @@ struct Parted {
 impl Parted {
     /// Puts the next choice to its part.
     fn put(&mut self, outcome: Outcome, choice: Choice) -> Result<(), NoMemory>
-        ensures taken { OnOk result ((rest : List traced.Choice) → atoms_or self.new.taken (atoms_among outcome rest) ≡ atoms_or self.old.taken (atoms_among outcome (choice_of choice ∷ rest))) }
-        ensures others { OnOk result ((rest : List traced.Choice) → choices_of self.new.others ++ without outcome rest ≡ choices_of self.old.others ++ without outcome (choice_of choice ∷ rest)) }
+        ensures taken { OnOk result ((rest : List traced.Choice)
+            → atoms_or self.new.taken (atoms_among outcome rest)
+            ≡ atoms_or self.old.taken (atoms_among outcome (choice_of choice ∷ rest))) }
+        ensures others { OnOk result ((rest : List traced.Choice)
+            → choices_of self.new.others ++ without outcome rest
+            ≡ choices_of self.old.others ++ without outcome (choice_of choice ∷ rest)) }
     {
         if !same_outcome(choice.outcome, outcome) {
             self.others.push(choice)?;
@@ -128,7 +132,11 @@ impl Journal {
 
     /// Notes the term to which the next event belongs.
     fn note(&mut self, site: SiteId, kind: TermKind) -> Result<(), NoMemory>
-        ensures { OnOk result (self.new ≡ record self.old { terms = self.old.terms ++ record { site = site; kind = kind } ∷ []; clean = or_length self.old.clean self.old.events }) }
+        ensures { OnOk result (self.new ≡ record self.old {
+          terms = self.old.terms
+              ++ record { site = site; kind = kind } ∷ [];
+          clean = or_length self.old.clean self.old.events;
+        }) }
     {
         if self.clean.is_none() {
             if self.events.len() > u32::MAX as usize {
@@ -150,7 +158,8 @@ impl Journal {
         places: u32,
     ) -> Result<(), NoMemory>
         ensures { OnOk result ((c : Checked) (l : List (Entry traced.Event)) (a : Entry traced.Event)
-            → IsSite c site a.kind a.token → (a.event).outcome ≡ outcome → (a.event).asked ≡ asked_of asked → length (a.event).places ≡ places
+            → IsSite c site a.kind a.token → (a.event).outcome ≡ outcome → (a.event).asked ≡ asked_of asked
+            → length (a.event).places ≡ places
             → IsJournal c l self.old → IsJournal c (l ++ a ∷ []) self.new) }
     {
         let parts = match asked {

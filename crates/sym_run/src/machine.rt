@@ -31,8 +31,8 @@ pub struct Frame {
     pub(crate) slots: Items<Option<Cell>>,
 }
 
-/// A run of code on an input, where it stands: the place of the next instruction, the temporaries and the slots, the callers,
-/// the steps and events that are left, the data, and what was recorded.
+/// A run of code on an input, where it stands: the place of the next instruction, the temporaries and the slots, the
+/// callers, the steps and events that are left, the data, and what was recorded.
 #[derive(Drop)]
 pub struct Machine {
     pub(crate) pc: u32,
@@ -102,9 +102,11 @@ impl Machine {
         }
     }
 
-    /// Puts a cell into a temporary, and goes on to the next instruction. No memory, too, where there is no such temporary.
+    /// Puts a cell into a temporary, and goes on to the next instruction. No memory, too, where there is no such
+    /// temporary.
     pub(crate) fn give(&mut self, dst: u32, cell: Cell) -> Result<(), NoMemory>
-        ensures { OnOk result (self.new ≡ record self.old { pc = suc self.old.pc; temps = slice_set self.old.temps dst cell }) }
+        ensures { OnOk result (self.new ≡ record
+            self.old { pc = suc self.old.pc; temps = slice_set self.old.temps dst cell }) }
     {
         if dst as usize >= self.temps.len() {
             return Err(NoMemory);

@@ -63,7 +63,8 @@ impl Machine {
 
     /// The next number of the stream to where a pointer points. No memory, too, where that isn't there.
     pub(crate) fn take(&mut self, fixed: &Fixed<'_>, pointer: u32) -> Result<Option<End>, NoMemory>
-        ensures { IfOk result (λ end. Did (setting fixed.now.checked.now fixed.now.tac.now fixed.now.bounds.now fixed.now.input.now) self.old self.new (i_take pointer) end) }
+        ensures { IfOk result (λ end. Did (setting fixed.now.checked.now fixed.now.tac.now fixed.now.bounds.now
+            fixed.now.input.now) self.old self.new (i_take pointer) end) }
     {
         let at = self.temp(pointer)?;
         let base = fixed.bounds.base();
@@ -103,7 +104,8 @@ impl Machine {
         slot: u32,
         ty: TyId,
     ) -> Result<Option<End>, NoMemory>
-        ensures { IfOk result (λ end. Did (setting fixed.now.checked.now fixed.now.tac.now fixed.now.bounds.now fixed.now.input.now) self.old self.new (i_local slot (layout_at fixed.now.checked.now ty.0)) end) }
+        ensures { IfOk result (λ end. Did (setting fixed.now.checked.now fixed.now.tac.now fixed.now.bounds.now
+            fixed.now.input.now) self.old self.new (i_local slot (layout_at fixed.now.checked.now ty.0)) end) }
     {
         let cells = layout_at(fixed.checked.layouts.as_slice(), ty);
         if !self.spend(cells.len()) {
@@ -122,7 +124,8 @@ impl Machine {
         dst: u32,
         ty: TyId,
     ) -> Result<Option<End>, NoMemory>
-        ensures { IfOk result (λ end. Did (setting fixed.now.checked.now fixed.now.tac.now fixed.now.bounds.now fixed.now.input.now) self.old self.new (i_malloc dst (layout_at fixed.now.checked.now ty.0)) end) }
+        ensures { IfOk result (λ end. Did (setting fixed.now.checked.now fixed.now.tac.now fixed.now.bounds.now
+            fixed.now.input.now) self.old self.new (i_malloc dst (layout_at fixed.now.checked.now ty.0)) end) }
     {
         let cells = layout_at(fixed.checked.layouts.as_slice(), ty);
         if !self.spend(cells.len()) {
@@ -141,7 +144,9 @@ impl Machine {
         dst: u32,
         pointer: u32,
     ) -> Result<Option<End>, NoMemory>
-        ensures { IfOk result (λ end. Did (setting fixed.now.checked.now fixed.now.tac.now fixed.now.bounds.now fixed.now.input.now) self.old self.new (i_access (site_token fixed.now.checked.now SiteKind.Access site) dst pointer) end) }
+        ensures { IfOk result (λ end. Did (setting fixed.now.checked.now fixed.now.tac.now fixed.now.bounds.now
+            fixed.now.input.now) self.old self.new
+            (i_access (site_token fixed.now.checked.now SiteKind.Access site) dst pointer) end) }
     {
         let at = self.temp(pointer)?;
         if self.events_left == 0 {

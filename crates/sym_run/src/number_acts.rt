@@ -3,13 +3,15 @@
 ghost use Rattle.std.specs.Prelude.{◌≡◌, ◌*◌, ◌≤◌, pos, neg_ℤ, length, if◌then◌else◌, IfOk, OnOk};
 ghost use Rattle.cc_model.specs.Domain.{act_arith, act_divisor, act_negate, act_index};
 ghost use Rattle.cc_model.specs.Plain as plain;
-ghost use Rattle.cc_model.specs.Plain.{apply, fitting, fit_of, int_eq, num, number_of, index_of, nat_of, compare_int, decision_of, is_truth};
+ghost use Rattle.cc_model.specs.Plain.{apply, fitting, fit_of, int_eq, num, number_of, index_of, nat_of, compare_int};
+ghost use Rattle.cc_model.specs.Plain.{decision_of, is_truth};
 ghost use Rattle.cc_model.specs.Traced as traced;
 ghost use Rattle.cc_model.specs.Traced.{form};
 ghost use Rattle.cc_laws.specs.LinearForms.{linear};
 ghost use Rattle.sym_run.specs.Asks.{asked_of};
 ghost use Rattle.sym_run.specs.Beside.{IsCell, IsValue, traced_of, value_of};
-ghost use Rattle.sym_run.specs.Numbers.{op_of, cmp_of, formed_seen, IsKept, IsWord, IsPointer, form_at, number_at, numbered, Grows};
+ghost use Rattle.sym_run.specs.Numbers.{op_of, cmp_of, formed_seen, IsKept, IsWord, IsPointer, form_at, number_at};
+ghost use Rattle.sym_run.specs.Numbers.{numbered, Grows};
 
 use crate::acted::Acted;
 use crate::asked::Asked;
@@ -74,8 +76,12 @@ pub fn arithmetic(
     requires left { IsCell symbols.old a }
     requires right { IsCell symbols.old b }
     ensures outcome { IfOk result (λ r. r.outcome ≡ fit_of (fitting (op_of operation) (number_at a) (number_at b))) }
-    ensures asked { IfOk result (λ r. (d : traced.Data) → asked_of r.asked ≡ traced.asked_of linear (act_arith (op_of operation) (traced_of symbols.old a) (traced_of symbols.old b)) d) }
-    ensures value { IfOk result (λ r. traced_of symbols.new r.cell ≡ numbered (traced.formed_of linear (op_of operation) (form_at symbols.old a) (form_at symbols.old b)) (apply (op_of operation) (number_at a) (number_at b))) }
+    ensures asked { IfOk result (λ r. (d : traced.Data)
+        → asked_of r.asked ≡ traced.asked_of linear
+        (act_arith (op_of operation) (traced_of symbols.old a) (traced_of symbols.old b)) d) }
+    ensures value { IfOk result (λ r. traced_of symbols.new r.cell
+        ≡ numbered (traced.formed_of linear (op_of operation) (form_at symbols.old a) (form_at symbols.old b))
+        (apply (op_of operation) (number_at a) (number_at b))) }
     ensures known { IfOk result (λ r. r.outcome ≡ Outcome.Plain → IsCell symbols.new r.cell) }
     ensures kept { OnOk result (Grows symbols.old symbols.new) }
 {
@@ -104,8 +110,10 @@ fn opposite(x: i64) -> i64
 pub fn negate(alloc: Global, symbols: &mut Symbols, a: Cell) -> Result<Acted, NoMemory>
     requires { IsCell symbols.old a }
     ensures outcome { IfOk result (λ r. r.outcome ≡ fit_of (neg_ℤ (number_at a))) }
-    ensures asked { IfOk result (λ r. (d : traced.Data) → asked_of r.asked ≡ traced.asked_of linear (act_negate (traced_of symbols.old a)) d) }
-    ensures value { IfOk result (λ r. traced_of symbols.new r.cell ≡ numbered (traced.negated_of linear (form_at symbols.old a)) (neg_ℤ (number_at a))) }
+    ensures asked { IfOk result (λ r. (d : traced.Data)
+        → asked_of r.asked ≡ traced.asked_of linear (act_negate (traced_of symbols.old a)) d) }
+    ensures value { IfOk result (λ r. traced_of symbols.new r.cell
+        ≡ numbered (traced.negated_of linear (form_at symbols.old a)) (neg_ℤ (number_at a))) }
     ensures known { IfOk result (λ r. r.outcome ≡ Outcome.Plain → IsCell symbols.new r.cell) }
     ensures kept { OnOk result (Grows symbols.old symbols.new) }
 {
@@ -137,7 +145,8 @@ pub fn divide_check(symbols: &Symbols, a: Cell, b: Cell) -> Decided
     requires left { IsCell symbols.now a }
     requires right { IsCell symbols.now b }
     ensures outcome { result.outcome ≡ (if int_eq (number_at b) (pos 0) then Outcome.Zero else Outcome.Plain) }
-    ensures asked { (d : traced.Data) → asked_of result.asked ≡ traced.asked_of linear (act_divisor (traced_of symbols.now a) (traced_of symbols.now b)) d }
+    ensures asked { (d : traced.Data) → asked_of result.asked
+        ≡ traced.asked_of linear (act_divisor (traced_of symbols.now a) (traced_of symbols.now b)) d }
 {
     Decided {
         outcome: divisor(number_of(b.value)),
@@ -155,8 +164,10 @@ pub fn compare_numbers(
 ) -> Result<Decided, NoMemory>
     requires left { IsCell symbols.now a }
     requires right { IsCell symbols.now b }
-    ensures outcome { IfOk result (λ r. r.outcome ≡ decision_of (compare_int (cmp_of comparison) (number_at a) (number_at b))) }
-    ensures asked { IfOk result (λ r. asked_of r.asked ≡ traced.numbers_asked linear (cmp_of comparison) (form_at symbols.now a) (form_at symbols.now b)) }
+    ensures outcome { IfOk result (λ r. r.outcome
+        ≡ decision_of (compare_int (cmp_of comparison) (number_at a) (number_at b))) }
+    ensures asked { IfOk result (λ r. asked_of r.asked
+        ≡ traced.numbers_asked linear (cmp_of comparison) (form_at symbols.now a) (form_at symbols.now b)) }
 {
     let x = number_of(a.value);
     let y = number_of(b.value);
@@ -204,7 +215,8 @@ pub fn moved(value: Value, by: u32) -> Result<Value, NoMemory>
 /// The element at an index that is inside; else the pointer itself. No memory, too, where the offset reaches 2^32.
 #[tactic(auto, unfolding(cc_model::specs::Plain::index_of, cc_model::specs::Plain::nat_of))]
 fn element(value: Value, i: i64, length: u32, width: u32) -> Result<Value, NoMemory>
-    ensures value { IfOk result (λ v. index_of i length ≡ Outcome.Plain → value_of v ≡ plain.offset (value_of value) (nat_of i * width)) }
+    ensures value { IfOk result (λ v. index_of i length ≡ Outcome.Plain
+        → value_of v ≡ plain.offset (value_of value) (nat_of i * width)) }
     ensures known { IfOk result (λ v. IsValue value → IsValue v) }
 {
     if i < 0 {
@@ -219,7 +231,8 @@ fn element(value: Value, i: i64, length: u32, width: u32) -> Result<Value, NoMem
     moved(value, by)
 }
 
-/// An element of an array, at the event at which the index has to be inside. No memory, too, where an offset reaches 2^32.
+/// An element of an array, at the event at which the index has to be inside. No memory, too, where an offset reaches
+/// 2^32.
 pub fn index(
     symbols: &Symbols,
     pointer: Cell,
@@ -230,8 +243,11 @@ pub fn index(
     requires pointer { IsCell symbols.now pointer }
     requires index { IsCell symbols.now i }
     ensures outcome { IfOk result (λ r. r.outcome ≡ index_of (number_at i) length) }
-    ensures asked { IfOk result (λ r. (d : traced.Data) → asked_of r.asked ≡ traced.asked_of linear (act_index (traced_of symbols.now pointer) (traced_of symbols.now i) length width) d) }
-    ensures value { IfOk result (λ r. r.outcome ≡ Outcome.Plain → IsPointer pointer.value → traced_of symbols.now r.cell ≡ traced.offset (traced_of symbols.now pointer) (nat_of (number_at i) * width)) }
+    ensures asked { IfOk result (λ r. (d : traced.Data)
+        → asked_of r.asked ≡ traced.asked_of linear
+        (act_index (traced_of symbols.now pointer) (traced_of symbols.now i) length width) d) }
+    ensures value { IfOk result (λ r. r.outcome ≡ Outcome.Plain → IsPointer pointer.value
+        → traced_of symbols.now r.cell ≡ traced.offset (traced_of symbols.now pointer) (nat_of (number_at i) * width)) }
     ensures known { IfOk result (λ r. IsCell symbols.now r.cell) }
 {
     let number = number_of(i.value);

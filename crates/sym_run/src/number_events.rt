@@ -44,7 +44,9 @@ fn choice(alloc: Global, outcome: Outcome, atom: Atom) -> Result<Choice, NoMemor
 fn plain_choice(alloc: Global, form: &Form, opposite: &Form) -> Result<Choice, NoMemory>
     requires form { IsNarrow form.now }
     requires opposite { IsNarrow opposite.now }
-    ensures { IfOk result (λ r. choice_of r ≡ choice_with Outcome.Plain (at_most_zero (linear.shift form.now (negsuc 2147483646)) ∷ at_most_zero (linear.shift opposite.now (negsuc 2147483647)) ∷ [])) }
+    ensures { IfOk result (λ r. choice_of r
+        ≡ choice_with Outcome.Plain (at_most_zero (linear.shift form.now (negsuc 2147483646))
+        ∷ at_most_zero (linear.shift opposite.now (negsuc 2147483647)) ∷ [])) }
 {
     let mut atoms = Items::from_vec(Vec::with_capacity(alloc, 2)?);
     atoms.push(Atom::Le(form.shift(-2_147_483_647)))?;
@@ -110,7 +112,8 @@ pub fn two_choices(alloc: Global, yes: Atom, no: Atom) -> Result<Asked, NoMemory
 /// The comparison that holds exactly where this one doesn't.
 #[tactic(auto, unfolding(cc_model::specs::Traced::compare_atom))]
 fn converse(comparison: Comparison) -> Comparison
-    ensures { (g : PlainForm) → traced.compare_atom linear (cmp_of result) true g ≡ traced.compare_atom linear (cmp_of comparison) false g }
+    ensures { (g : PlainForm) → traced.compare_atom linear (cmp_of result) true g
+        ≡ traced.compare_atom linear (cmp_of comparison) false g }
 {
     match comparison {
         Comparison::Equal => Comparison::Unequal,
@@ -149,7 +152,9 @@ fn compare_atom(comparison: Comparison, form: &Form) -> Atom
 /// What a comparison of a form with 0 asks.
 fn zero_asked(alloc: Global, comparison: Comparison, form: &Form) -> Result<Asked, NoMemory>
     requires { IsNarrow form.now }
-    ensures { IfOk result (λ r. asked_of r ≡ one_of (traced.two_choices (traced.compare_atom linear (cmp_of comparison) true form.now) (traced.compare_atom linear (cmp_of comparison) false form.now))) }
+    ensures { IfOk result (λ r. asked_of r
+        ≡ one_of (traced.two_choices (traced.compare_atom linear (cmp_of comparison) true form.now)
+        (traced.compare_atom linear (cmp_of comparison) false form.now))) }
 {
     let yes = compare_atom(comparison, form);
     let no = compare_atom(converse(comparison), form);
@@ -163,7 +168,8 @@ fn difference_asked(
     a: &Form,
     b: &Form,
 ) -> Result<Asked, NoMemory>
-    ensures { IfOk result (λ r. asked_of r ≡ traced.difference_asked linear (cmp_of comparison) (linear.difference a.now b.now)) }
+    ensures { IfOk result (λ r. asked_of r
+        ≡ traced.difference_asked linear (cmp_of comparison) (linear.difference a.now b.now)) }
 {
     match a.sub(b) {
         Ok(difference) => zero_asked(alloc, comparison, &difference),
@@ -249,7 +255,8 @@ pub fn numbers_cells(
 ) -> Result<Asked, NoMemory>
     requires left { IsCell symbols.now a }
     requires right { IsCell symbols.now b }
-    ensures { IfOk result (λ r. asked_of r ≡ traced.numbers_asked linear (cmp_of comparison) (form_at symbols.now a) (form_at symbols.now b)) }
+    ensures { IfOk result (λ r. asked_of r
+        ≡ traced.numbers_asked linear (cmp_of comparison) (form_at symbols.now a) (form_at symbols.now b)) }
 {
     if a.shadow == 0 && b.shadow == 0 {
         return Ok(Asked::Nothing);

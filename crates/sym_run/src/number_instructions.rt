@@ -41,7 +41,9 @@ impl Machine {
         a: u32,
         b: u32,
     ) -> Result<Option<End>, NoMemory>
-        ensures { IfOk result (λ end. Did (setting fixed.now.checked.now fixed.now.tac.now fixed.now.bounds.now fixed.now.input.now) self.old self.new (i_arith (site_token fixed.now.checked.now SiteKind.Fit site) (op_of operation) dst a b) end) }
+        ensures { IfOk result (λ end. Did (setting fixed.now.checked.now fixed.now.tac.now fixed.now.bounds.now
+            fixed.now.input.now) self.old self.new
+            (i_arith (site_token fixed.now.checked.now SiteKind.Fit site) (op_of operation) dst a b) end) }
     {
         let left = self.temp(a)?;
         let right = self.temp(b)?;
@@ -62,7 +64,9 @@ impl Machine {
         a: u32,
         b: u32,
     ) -> Result<Option<End>, NoMemory>
-        ensures { IfOk result (λ end. Did (setting fixed.now.checked.now fixed.now.tac.now fixed.now.bounds.now fixed.now.input.now) self.old self.new (i_divisor (site_token fixed.now.checked.now SiteKind.Divisor site) a b) end) }
+        ensures { IfOk result (λ end. Did (setting fixed.now.checked.now fixed.now.tac.now fixed.now.bounds.now
+            fixed.now.input.now) self.old self.new
+            (i_divisor (site_token fixed.now.checked.now SiteKind.Divisor site) a b) end) }
     {
         let left = self.temp(a)?;
         let right = self.temp(b)?;
@@ -88,7 +92,9 @@ impl Machine {
         dst: u32,
         a: u32,
     ) -> Result<Option<End>, NoMemory>
-        ensures { IfOk result (λ end. Did (setting fixed.now.checked.now fixed.now.tac.now fixed.now.bounds.now fixed.now.input.now) self.old self.new (i_negate (site_token fixed.now.checked.now SiteKind.Fit site) dst a) end) }
+        ensures { IfOk result (λ end. Did (setting fixed.now.checked.now fixed.now.tac.now fixed.now.bounds.now
+            fixed.now.input.now) self.old self.new
+            (i_negate (site_token fixed.now.checked.now SiteKind.Fit site) dst a) end) }
     {
         let cell = self.temp(a)?;
         let acted = negate(fixed.alloc, &mut self.symbols, cell)?;
@@ -100,7 +106,8 @@ impl Machine {
         self.settle(fixed, spot, Some(dst), acted)
     }
 
-    /// An element of an array into a temporary. No memory, too, where the pointer is into no object that the run has met.
+    /// An element of an array into a temporary. No memory, too, where the pointer is into no object that the run has
+    /// met.
     pub(crate) fn element(
         &mut self,
         fixed: &Fixed<'_>,
@@ -111,7 +118,9 @@ impl Machine {
         length: u32,
         width: u32,
     ) -> Result<Option<End>, NoMemory>
-        ensures { IfOk result (λ end. Did (setting fixed.now.checked.now fixed.now.tac.now fixed.now.bounds.now fixed.now.input.now) self.old self.new (i_index (site_token fixed.now.checked.now SiteKind.Index site) dst pointer i length width) end) }
+        ensures { IfOk result (λ end. Did (setting fixed.now.checked.now fixed.now.tac.now fixed.now.bounds.now
+            fixed.now.input.now) self.old self.new
+            (i_index (site_token fixed.now.checked.now SiteKind.Index site) dst pointer i length width) end) }
     {
         let base = self.temp(pointer)?;
         let number = self.temp(i)?;
@@ -127,7 +136,8 @@ impl Machine {
         self.settle(fixed, spot, Some(dst), acted)
     }
 
-    /// A pointer some cells further into a temporary. No memory, too, where the pointer is into no object that the run has met.
+    /// A pointer some cells further into a temporary. No memory, too, where the pointer is into no object that the run
+    /// has met.
     pub(crate) fn offset(
         &mut self,
         dst: u32,
@@ -155,7 +165,10 @@ impl Machine {
         a: u32,
         b: u32,
     ) -> Result<Option<End>, NoMemory>
-        ensures { IfOk result (λ end. Did (setting fixed.now.checked.now fixed.now.tac.now fixed.now.bounds.now fixed.now.input.now) self.old self.new (i_compare (site_token fixed.now.checked.now SiteKind.Decision site) (seen_comparison comparison) dst a b) end) }
+        ensures { IfOk result (λ end. Did (setting fixed.now.checked.now fixed.now.tac.now fixed.now.bounds.now
+            fixed.now.input.now) self.old self.new
+            (i_compare (site_token fixed.now.checked.now SiteKind.Decision site)
+            (seen_comparison comparison) dst a b) end) }
     {
         let left = self.temp(a)?;
         let right = self.temp(b)?;
@@ -174,7 +187,9 @@ impl Machine {
         dst: u32,
         a: u32,
     ) -> Result<Option<End>, NoMemory>
-        ensures { IfOk result (λ end. Did (setting fixed.now.checked.now fixed.now.tac.now fixed.now.bounds.now fixed.now.input.now) self.old self.new (i_truth (site_token fixed.now.checked.now SiteKind.Decision site) dst a) end) }
+        ensures { IfOk result (λ end. Did (setting fixed.now.checked.now fixed.now.tac.now fixed.now.bounds.now
+            fixed.now.input.now) self.old self.new
+            (i_truth (site_token fixed.now.checked.now SiteKind.Decision site) dst a) end) }
     {
         let cell = self.temp(a)?;
         let decided = test(fixed.alloc, &self.symbols, cell)?;

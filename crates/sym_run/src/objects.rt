@@ -1,6 +1,7 @@
 //! What a run computes on: its memory, and the places that it has met.
 
-ghost use Rattle.std.specs.Prelude.{List, ◌≡◌, ◌++◌, ◌∷◌, [], length, map, ◌≤◌, pos, ◌≤ℤ◌, nat_abs, slice_get, unwrap_or, IfSome, IfOk, OnOk};
+ghost use Rattle.std.specs.Prelude.{List, ◌≡◌, ◌++◌, ◌∷◌, [], length, map, ◌≤◌, pos, ◌≤ℤ◌, nat_abs, slice_get};
+ghost use Rattle.std.specs.Prelude.{unwrap_or, IfSome, IfOk, OnOk};
 ghost use Rattle.cc_base.specs.Places.{ParentBelow};
 ghost use Rattle.cc_laws.specs.LinearForms.{linear};
 ghost use Rattle.cc_model.specs.CheckedProgram.{cell_of};
@@ -51,17 +52,21 @@ impl Objects {
 
     /// The cell to which a pointer points; None where there is none.
     pub fn load(&self, at: Cell) -> Option<Cell>
-        ensures { IfSome result (λ cell. (start : plain.Data) (named : List Named) (symbols : List PlainSymbol) (d : traced.Data)
+        ensures { IfSome result (λ cell. (start : plain.Data) (named : List Named) (symbols : List PlainSymbol)
+            (d : traced.Data)
             → Remembers start named symbols self.now d → IsCell symbols at
-            → (traced_of symbols cell ≡ traced.load (traced_of symbols at) d) × IsKnown named (names_in self.now) symbols cell) }
+            → (traced_of symbols cell ≡ traced.load (traced_of symbols at) d)
+            × IsKnown named (names_in self.now) symbols cell) }
     {
         self.memory.find(at.value)
     }
 
     /// Puts a cell where a pointer points. No memory, too, where there is no cell.
     pub fn store(&mut self, at: Cell, cell: Cell) -> Result<(), NoMemory>
-        ensures stored { OnOk result ((start : plain.Data) (named : List Named) (symbols : List PlainSymbol) (d : traced.Data)
-            → Remembers start named symbols self.old d → IsCell symbols at → IsKnown named (names_in self.old) symbols cell
+        ensures stored { OnOk result ((start : plain.Data) (named : List Named) (symbols : List PlainSymbol)
+            (d : traced.Data)
+            → Remembers start named symbols self.old d → IsCell symbols at
+            → IsKnown named (names_in self.old) symbols cell
             → Remembers start named symbols self.new (traced.store (traced_of symbols at) (traced_of symbols cell) d)) }
         ensures names { OnOk result (names_in self.new ≡ names_in self.old) }
     {
@@ -74,7 +79,8 @@ impl Objects {
 
     /// The rank of the block at an address, or the number of touched blocks where it isn't touched.
     pub(crate) fn rank(&self, address: i64) -> u8
-        ensures rank { Every (λ b. pos 0 ≤ℤ b.address) self.now.memory.touched → pos 0 ≤ℤ address → result ≡ plain.rank (nat_abs address) (names_in self.now) }
+        ensures rank { Every (λ b. pos 0 ≤ℤ b.address) self.now.memory.touched → pos 0 ≤ℤ address
+            → result ≡ plain.rank (nat_abs address) (names_in self.now) }
         ensures few { result ≤ 26 }
     {
         let count = self.memory.touched();
@@ -84,12 +90,15 @@ impl Objects {
         }
     }
 
-    /// Makes an object of these cells, with 0 and NULL in them, and answers a pointer to its first cell. No memory, too,
-    /// where 2^32 - 1 objects were made.
+    /// Makes an object of these cells, with 0 and NULL in them, and answers a pointer to its first cell. No memory,
+    /// too, where 2^32 - 1 objects were made.
     pub fn make(&mut self, alloc: Global, cells: &[CellTy]) -> Result<Cell, NoMemory>
-        ensures made { IfOk result (λ cell. (start : plain.Data) (named : List Named) (symbols : List PlainSymbol) (d : traced.Data) (type : core.Layout)
+        ensures made { IfOk result (λ cell. (start : plain.Data) (named : List Named) (symbols : List PlainSymbol)
+            (d : traced.Data) (type : core.Layout)
             → Remembers start named symbols self.old d → type.cells ≡ map cell_of cells.now
-            → (traced_of symbols cell ≡ (traced.make linear type d).value) × Remembers start named symbols self.new (traced.make linear type d).after × IsKnown named (names_in self.new) symbols cell) }
+            → (traced_of symbols cell ≡ (traced.make linear type d).value)
+            × Remembers start named symbols self.new (traced.make linear type d).after
+            × IsKnown named (names_in self.new) symbols cell) }
         ensures names { OnOk result (names_in self.new ≡ names_in self.old) }
     {
         if self.memory.made() >= u32::MAX as usize {
@@ -103,8 +112,8 @@ impl Objects {
         })
     }
 
-    /// Puts the next number of the stream where a pointer points, or the base value past the stream's end; it has a place of
-    /// its own. No memory, too, where there is no cell, or 2^32 - 1 numbers were taken.
+    /// Puts the next number of the stream where a pointer points, or the base value past the stream's end; it has a
+    /// place of its own. No memory, too, where there is no cell, or 2^32 - 1 numbers were taken.
     pub fn take(
         &mut self,
         symbols: &mut Symbols,
@@ -113,7 +122,8 @@ impl Objects {
         at: Cell,
     ) -> Result<(), NoMemory>
         ensures taken { OnOk result ((start : plain.Data) (named : List Named) (d : traced.Data)
-            → Remembers start named symbols.old self.old d → IsCell symbols.old at → start.stream ≡ input.now.stream → start.base ≡ base
+            → Remembers start named symbols.old self.old d → IsCell symbols.old at → start.stream ≡ input.now.stream
+            → start.base ≡ base
             → Remembers start named symbols.new self.new (traced.take linear (traced_of symbols.old at) d)) }
         ensures symbols { OnOk result ((added : List PlainSymbol) × (symbols.new ≡ symbols.old ++ added)) }
         ensures names { OnOk result (names_in self.new ≡ names_in self.old) }

@@ -167,7 +167,8 @@ pub fn negated_of(a: &Form) -> Formed
 pub fn formed_cells(symbols: &Symbols, operation: Operation, a: Cell, b: Cell) -> Formed
     requires left { IsCell symbols.now a }
     requires right { IsCell symbols.now b }
-    ensures { formed_seen result ≡ traced.formed_of linear (op_of operation) (form_at symbols.now a) (form_at symbols.now b) }
+    ensures { formed_seen result ≡ traced.formed_of linear (op_of operation) (form_at symbols.now a)
+        (form_at symbols.now b) }
 {
     if a.shadow == 0 && b.shadow == 0 {
         return Formed::PlainNumber;

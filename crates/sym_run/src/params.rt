@@ -85,7 +85,8 @@ fn first_cell(cells: &[CellTy]) -> CellTy
 
 /// The type of a local of a function.
 fn slot_type(checked: &Checked, sig: &Sig, token: u32) -> TyId
-    ensures { cells_at checked.now result.0 ≡ (slot_layout checked.now (Some sig.now) (name_at checked.now token)).cells }
+    ensures { cells_at checked.now result.0
+        ≡ (slot_layout checked.now (Some sig.now) (name_at checked.now token)).cells }
 {
     let Some(Target::Local(slot)) = name(checked, token) else {
         return TyId(0);
@@ -102,7 +103,8 @@ pub(crate) fn param_types(
     checked: &Checked,
     number: u32,
 ) -> Result<Items<CellTy>, NoMemory>
-    ensures { IfOk result (λ l. (f : PlainFunc) × (slice_get (core_of checked.now).funcs number ≡ Some f) × (map cell_of l ≡ f.params)) }
+    ensures { IfOk result (λ l. (f : PlainFunc) × (slice_get (core_of checked.now).funcs number ≡ Some f)
+        × (map cell_of l ≡ f.params)) }
 {
     let Some(sig) = checked.funcs.get(number as usize) else {
         return Err(NoMemory);

@@ -92,7 +92,8 @@ fn same_side(a: PtrTerm, b: PtrTerm) -> bool
 
 /// What a comparison of two sides asks; `differ` says that it is `!=`.
 fn both_asked(alloc: Global, differ: bool, a: PtrTerm, b: PtrTerm) -> Result<Asked, NoMemory>
-    ensures { IfOk result (λ asked. (o : core.Cmp) → is_ne o ≡ differ → asked_of asked ≡ traced.sides_asked o (Some (side_of a)) (Some (side_of b))) }
+    ensures { IfOk result (λ asked. (o : core.Cmp) → is_ne o ≡ differ
+        → asked_of asked ≡ traced.sides_asked o (Some (side_of a)) (Some (side_of b))) }
 {
     if same_side(a, b) {
         return Ok(Asked::Nothing);
@@ -111,7 +112,8 @@ pub(crate) fn sides_asked(
     a: Option<PtrTerm>,
     b: Option<PtrTerm>,
 ) -> Result<Asked, NoMemory>
-    ensures { IfOk result (λ asked. (o : core.Cmp) → is_ne o ≡ differ → asked_of asked ≡ traced.sides_asked o (option_map side_of a) (option_map side_of b)) }
+    ensures { IfOk result (λ asked. (o : core.Cmp) → is_ne o ≡ differ
+        → asked_of asked ≡ traced.sides_asked o (option_map side_of a) (option_map side_of b)) }
 {
     match a {
         None => Ok(Asked::Nothing),
@@ -125,7 +127,8 @@ pub(crate) fn sides_asked(
 /// What a comparison of two places asks; a checked program compares no pointers to different types.
 #[tactic(auto, unfolding(cc_model::specs::Traced::places_asked))]
 fn places_asked(alloc: Global, differ: bool, a: First, b: First) -> Result<Asked, NoMemory>
-    ensures { IfOk result (λ asked. (o : core.Cmp) → is_ne o ≡ differ → asked_of asked ≡ traced.places_asked o a.place.0 a.ty.0 b.place.0 b.ty.0) }
+    ensures { IfOk result (λ asked. (o : core.Cmp) → is_ne o ≡ differ
+        → asked_of asked ≡ traced.places_asked o a.place.0 a.ty.0 b.place.0 b.ty.0) }
 {
     if a.ty.0 == b.ty.0 {
         return sides_asked(
@@ -162,7 +165,8 @@ impl Objects {
         requires { IsValue value }
         ensures { (start : plain.Data) (named : List Named) (symbols : List PlainSymbol) (d : traced.Data)
             → Remembers start named symbols self.now d
-            → option_map side_of result ≡ traced.side_without target.0 (value_of value) (d.plain).touched (d.shadows).touched }
+            → option_map side_of result ≡ traced.side_without target.0 (value_of value) (d.plain).touched
+            (d.shadows).touched }
     {
         match value {
             Value::Null => Some(PtrTerm::Null),
@@ -190,7 +194,8 @@ impl Objects {
         requires right { IsCell symbols.now b }
         ensures { IfOk result (λ asked. (start : plain.Data) (named : List Named) (d : traced.Data) (o : core.Cmp)
             → Remembers start named symbols.now self.now d → is_ne o ≡ differ
-            → asked_of asked ≡ traced.pointers_asked o (traced_of symbols.now a) (traced_of symbols.now b) (d.plain).touched (d.shadows).touched) }
+            → asked_of asked ≡ traced.pointers_asked o (traced_of symbols.now a) (traced_of symbols.now b)
+            (d.plain).touched (d.shadows).touched) }
     {
         match place_beside(symbols, a) {
             Some(f) => match place_beside(symbols, b) {
@@ -214,7 +219,8 @@ impl Objects {
 /// What a test of a pointer asks.
 #[tactic(auto, unfolding(cc_model::specs::Traced::test_asked))]
 pub fn test_asked(alloc: Global, symbols: &Symbols, pointer: Cell) -> Result<Asked, NoMemory>
-    ensures { IfOk result (λ asked. HasNoForm (cell_shadow symbols.now pointer) → asked_of asked ≡ traced.test_asked linear (cell_shadow symbols.now pointer)) }
+    ensures { IfOk result (λ asked. HasNoForm (cell_shadow symbols.now pointer)
+        → asked_of asked ≡ traced.test_asked linear (cell_shadow symbols.now pointer)) }
 {
     match place_beside(symbols, pointer) {
         Some(beside) => two_choices(
@@ -258,7 +264,12 @@ pub fn same_pointer(a: Value, b: Value) -> bool
 
 /// The letter of a touched block.
 fn letter(alloc: Global, rank: u8, place: PlaceId, first: PlaceId) -> Result<Choice, NoMemory>
-    ensures { IfOk result (λ c. choice_of c ≡ record { outcome = Outcome.Object rank; atoms = atom_of (Atom.Same (PtrTerm.At place) (PtrTerm.At first)) ∷ [] }) }
+    ensures { IfOk result (λ c. choice_of c
+        ≡ record {
+          outcome = Outcome.Object rank;
+          atoms = atom_of (Atom.Same (PtrTerm.At place) (PtrTerm.At first))
+              ∷ [];
+        }) }
 {
     choice(
         alloc,
@@ -287,7 +298,8 @@ fn add_letters(
     firsts: &[First],
 ) -> Result<(), NoMemory>
     requires { length firsts.now ≤ 26 }
-    ensures { OnOk result (choices_of choices.new ≡ choices_of choices.old ++ traced.letters pointer.place.0 pointer.ty.0 0 (map blank firsts.now)) }
+    ensures { OnOk result (choices_of choices.new
+        ≡ choices_of choices.old ++ traced.letters pointer.place.0 pointer.ty.0 0 (map blank firsts.now)) }
 {
     for (rank, first) in firsts.iter().enumerate() {
         if pointer.ty.0 == first.ty.0 {
@@ -299,7 +311,9 @@ fn add_letters(
 
 /// The atoms by which a pointer differs from NULL and from each touched block of its type.
 fn differs(alloc: Global, pointer: First, firsts: &[First]) -> Result<Items<Atom>, NoMemory>
-    ensures { IfOk result (λ atoms. map atom_of atoms ≡ atom_of (Atom.Differ (PtrTerm.At pointer.place) PtrTerm.Null) ∷ traced.differs pointer.place.0 pointer.ty.0 (map blank firsts.now)) }
+    ensures { IfOk result (λ atoms. map atom_of atoms
+        ≡ atom_of (Atom.Differ (PtrTerm.At pointer.place) PtrTerm.Null)
+        ∷ traced.differs pointer.place.0 pointer.ty.0 (map blank firsts.now)) }
 {
     let mut atoms = Items::new(alloc);
     atoms.push(Atom::Differ(PtrTerm::At(pointer.place), PtrTerm::Null))?;
@@ -319,7 +333,8 @@ fn access_choices(
     firsts: &[First],
 ) -> Result<Items<Choice>, NoMemory>
     requires { length firsts.now ≤ 26 }
-    ensures { IfOk result (λ l. choices_of l ≡ traced.access_choices pointer.place.0 pointer.ty.0 (map blank firsts.now)) }
+    ensures { IfOk result (λ l. choices_of l
+        ≡ traced.access_choices pointer.place.0 pointer.ty.0 (map blank firsts.now)) }
 {
     let null = choice(
         alloc,
@@ -346,7 +361,8 @@ pub(crate) fn access_asked(
     pointer: Cell,
 ) -> Result<Asked, NoMemory>
     requires { length firsts.now ≤ 26 }
-    ensures { IfOk result (λ asked. asked_of asked ≡ traced.access_asked (cell_shadow symbols.now pointer) (map blank firsts.now)) }
+    ensures { IfOk result (λ asked. asked_of asked
+        ≡ traced.access_asked (cell_shadow symbols.now pointer) (map blank firsts.now)) }
 {
     let Some(beside) = place_beside(symbols, pointer) else {
         return Ok(Asked::Nothing);

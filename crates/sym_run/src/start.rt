@@ -1,6 +1,7 @@
 //! Where a run begins.
 
-ghost use Rattle.std.specs.Prelude.{◌≡◌, ◌++◌, ◌∷◌, [], ◌<◌, ◌≤◌, ◌^◌, ◌-◌, ℕ, suc, length, map, slice_get, Some, IfOk, OnOk, pos, negsuc, ◌≤ℤ◌};
+ghost use Rattle.std.specs.Prelude.{◌≡◌, ◌++◌, ◌∷◌, [], ◌<◌, ◌≤◌, ◌^◌, ◌-◌, ℕ, suc, length, map, slice_get, Some, IfOk};
+ghost use Rattle.std.specs.Prelude.{OnOk, pos, negsuc, ◌≤ℤ◌};
 ghost use Rattle.checked_memory.specs.declared.values.Cell.{Cell as PlainCell};
 ghost use Rattle.cc_model.specs.CheckedProgram.{cell_of, core_of};
 ghost use Rattle.cc_model.specs.Graphs.{PointsToCells};
@@ -24,8 +25,8 @@ use std::alloc::Global;
 use sym_expr::{Place, Places};
 use tac_lower::TacFunc;
 
-/// The cells of the parameters, from the input's numbers, with their places and symbols. No memory, too, where there are
-/// fewer numbers than cells.
+/// The cells of the parameters, from the input's numbers, with their places and symbols. No memory, too, where there
+/// are fewer numbers than cells.
 fn arg_cells(
     alloc: Global,
     symbols: &mut Symbols,
@@ -54,7 +55,11 @@ fn arg_cells(
 
 /// Makes an object of each cell. No memory, too, where 2^32 - 1 objects were made.
 fn make_each(memory: &mut Memory, cells: &[Cell]) -> Result<(), NoMemory>
-    ensures { OnOk result (memory.new ≡ record { made = memory.old.made ++ singles cells.now; touched = memory.old.touched }) }
+    ensures { OnOk result (memory.new ≡ record {
+      made = memory.old.made
+          ++ singles cells.now;
+      touched = memory.old.touched;
+    }) }
 {
     for cell in cells {
         if memory.made() >= u32::MAX as usize {
@@ -75,7 +80,8 @@ fn begin_memory(alloc: Global, globals: &[Cell], args: &[Cell]) -> Result<Memory
     Ok(memory)
 }
 
-/// The globals and parameters of a run, with the parameters' symbols. No memory, too, where the input has too few cells.
+/// The globals and parameters of a run, with the parameters' symbols. No memory, too, where the input has too few
+/// cells.
 fn begin_objects(fixed: &Fixed<'_>, symbols: &mut Symbols) -> Result<Objects, NoMemory>
     requires { symbols.old ≡ [] }
     ensures { IfOk result (λ o. IsLaid fixed.now.checked.now fixed.now.input.now symbols.new o) }
@@ -154,9 +160,11 @@ fn entry_code(fixed: &Fixed<'_>) -> Result<TacFunc, NoMemory>
 
 /// The machine before the first instruction of the tested function.
 pub(crate) fn begin(fixed: &Fixed<'_>) -> Result<Machine, NoMemory>
-    requires points { PointsToCells (core_of fixed.now.checked.now).layouts (params_of (core_of fixed.now.checked.now)) }
+    requires points { PointsToCells (core_of fixed.now.checked.now).layouts
+        (params_of (core_of fixed.now.checked.now)) }
     requires input { IsInput (core_of fixed.now.checked.now) fixed.now.bounds.now fixed.now.input.now }
-    ensures { IfOk result (λ m. Came (setting fixed.now.checked.now fixed.now.tac.now fixed.now.bounds.now fixed.now.input.now) m) }
+    ensures { IfOk result (λ m. Came (setting fixed.now.checked.now fixed.now.tac.now fixed.now.bounds.now
+        fixed.now.input.now) m) }
 {
     let code = entry_code(fixed)?;
     let _low = fixed.bounds.lo();

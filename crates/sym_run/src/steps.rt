@@ -19,10 +19,12 @@ impl Fixed<'_> {
 }
 
 impl Machine {
-    /// Does the next instruction; Some where the run ends. No memory, too, where none is left in the code, and in a state that
-    /// no code of a checked program comes to.
+    /// Does the next instruction; Some where the run ends. No memory, too, where none is left in the code, and in a
+    /// state that no code of a checked program comes to.
     pub fn step(&mut self, fixed: &Fixed<'_>) -> Result<Option<End>, NoMemory>
-        ensures { IfOk result (λ end. Stepped (setting fixed.now.checked.now fixed.now.tac.now fixed.now.bounds.now fixed.now.input.now) self.old self.new end) }
+        ensures { IfOk result (λ end. Stepped
+            (setting fixed.now.checked.now fixed.now.tac.now fixed.now.bounds.now fixed.now.input.now) self.old
+            self.new end) }
     {
         match fixed.instruction(self.pc) {
             None => Err(NoMemory),
@@ -32,7 +34,8 @@ impl Machine {
 
     /// Does an instruction.
     fn act(&mut self, fixed: &Fixed<'_>, instruction: Instr) -> Result<Option<End>, NoMemory>
-        ensures { IfOk result (λ end. Did (setting fixed.now.checked.now fixed.now.tac.now fixed.now.bounds.now fixed.now.input.now) self.old self.new (seen fixed.now.checked.now instruction) end) }
+        ensures { IfOk result (λ end. Did (setting fixed.now.checked.now fixed.now.tac.now fixed.now.bounds.now
+            fixed.now.input.now) self.old self.new (seen fixed.now.checked.now instruction) end) }
     {
         match instruction {
             Instr::Step => self.step_on(),
@@ -56,7 +59,8 @@ impl Machine {
         fixed: &Fixed<'_>,
         instruction: Instr,
     ) -> Result<Option<End>, NoMemory>
-        ensures { IfOk result (λ end. Did (setting fixed.now.checked.now fixed.now.tac.now fixed.now.bounds.now fixed.now.input.now) self.old self.new (seen fixed.now.checked.now instruction) end) }
+        ensures { IfOk result (λ end. Did (setting fixed.now.checked.now fixed.now.tac.now fixed.now.bounds.now
+            fixed.now.input.now) self.old self.new (seen fixed.now.checked.now instruction) end) }
     {
         match instruction {
             Instr::Add(site, dst, a, b) => self.arith(fixed, site, Operation::Add, dst, a, b),
@@ -80,7 +84,8 @@ impl Machine {
         fixed: &Fixed<'_>,
         instruction: Instr,
     ) -> Result<Option<End>, NoMemory>
-        ensures { IfOk result (λ end. Did (setting fixed.now.checked.now fixed.now.tac.now fixed.now.bounds.now fixed.now.input.now) self.old self.new (seen fixed.now.checked.now instruction) end) }
+        ensures { IfOk result (λ end. Did (setting fixed.now.checked.now fixed.now.tac.now fixed.now.bounds.now
+            fixed.now.input.now) self.old self.new (seen fixed.now.checked.now instruction) end) }
     {
         match instruction {
             Instr::Access(site, dst, pointer) => self.access(fixed, site, dst, pointer),

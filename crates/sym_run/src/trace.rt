@@ -11,7 +11,8 @@ pub struct Choice {
     pub atoms: Items<Atom>,
 }
 
-/// An event of a run: its site, the outcome that came with its atoms, the other outcomes that the input may lead to, ascending, and how many places stood before it.
+/// An event of a run: its site, the outcome that came with its atoms, the other outcomes that the input may lead to,
+/// ascending, and how many places stood before it.
 #[derive(Drop)]
 pub struct Event {
     pub site: SiteId,
@@ -27,7 +28,8 @@ pub struct Term {
     pub kind: TermKind,
 }
 
-/// A run on an input: its events, all places that it met, its end, how many events come before the first of a term, and the terms, one for each event of a term.
+/// A run on an input: its events, all places that it met, its end, how many events come before the first of a term, and
+/// the terms, one for each event of a term.
 #[derive(Drop)]
 pub struct Trace {
     pub input: Input,

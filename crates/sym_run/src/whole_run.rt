@@ -30,9 +30,12 @@ use tac_lower::Tac;
 impl Machine {
     /// Goes on to the end of the run. No memory, too, where 2^64 - 1 instructions were not enough.
     fn finish(&mut self, fixed: &Fixed<'_>) -> Result<End, NoMemory>
-        requires came { Came (setting fixed.now.checked.now fixed.now.tac.now fixed.now.bounds.now fixed.now.input.now) self.old }
-        requires compiles { Compiles (core_of fixed.now.checked.now) (map (seen fixed.now.checked.now) fixed.now.tac.now.code) (λ f. first_in fixed.now.tac.now f) }
-        ensures { IfOk result (λ end. Ended (setting fixed.now.checked.now fixed.now.tac.now fixed.now.bounds.now fixed.now.input.now) self.new end) }
+        requires came { Came (setting fixed.now.checked.now fixed.now.tac.now fixed.now.bounds.now fixed.now.input.now)
+            self.old }
+        requires compiles { Compiles (core_of fixed.now.checked.now)
+            (map (seen fixed.now.checked.now) fixed.now.tac.now.code) (λ f. first_in fixed.now.tac.now f) }
+        ensures { IfOk result (λ end. Ended
+            (setting fixed.now.checked.now fixed.now.tac.now fixed.now.bounds.now fixed.now.input.now) self.new end) }
     {
         'instructions: for _number in 0..u64::MAX {
             if let Some(end) = self.step(fixed)? {
@@ -66,7 +69,15 @@ fn clean_to(journal: &Journal) -> u32
 /// The trace of a run that a machine did.
 fn trace_of(machine: Machine, input: Input, end: End) -> Trace
     requires { length machine.journal.events < 2 ^ 32 }
-    ensures { result ≡ record { input = input; events = machine.journal.events; places = machine.objects.places; end = end; clean_to = unwrap_or machine.journal.clean (length machine.journal.events); terms = machine.journal.terms } }
+    ensures { result ≡ record {
+      input = input;
+      events = machine.journal.events;
+      places = machine.objects.places;
+      end = end;
+      clean_to = unwrap_or machine.journal.clean
+          (length machine.journal.events);
+      terms = machine.journal.terms;
+    } }
 {
     let Machine {
         journal,
@@ -86,9 +97,9 @@ fn trace_of(machine: Machine, input: Input, end: End) -> Trace
     }
 }
 
-/// The traced run of a checked program's code on an input within the bounds. No memory, too, where a number that a global
-/// starts with has more than 32 bits, the code lacks what the code of a program has, or 2^64 - 1 instructions were not
-/// enough.
+/// The traced run of a checked program's code on an input within the bounds. No memory, too, where a number that a
+/// global starts with has more than 32 bits, the code lacks what the code of a program has, or 2^64 - 1 instructions
+/// were not enough.
 pub fn run(
     alloc: Global,
     checked: &Checked,
@@ -103,11 +114,14 @@ pub fn run(
     ensures short { IfOk result (λ t. length t.events ≤ bounds.now.depth) }
     ensures no_offer { IfOk result (λ t. (e : PlainEvent) → slice_get t.events t.clean_to ≡ Some e → e.others ≡ []) }
     ensures few { IfOk result (λ t. (k : ℕ) (e : PlainEvent) → slice_get t.events k ≡ Some e → OffersFew e) }
-    ensures plain { IfOk result (λ t. ArePlain checked.now (run_of (core_of checked.now) bounds.now input.now).log t.events) }
+    ensures plain { IfOk result (λ t. ArePlain checked.now
+        (run_of (core_of checked.now) bounds.now input.now).log t.events) }
     ensures end_of_run { IfOk result (λ t. t.end ≡ end_at (core_of checked.now) bounds.now input.now) }
     ensures bytes { IfOk result (λ t. All HasByte (map outcome_at t.events)) }
-    ensures places { IfOk result (λ t. ArePlaces (params_of (core_of checked.now)) (core_of checked.now).layouts t.places) }
-    ensures names { IfOk result (λ t. (k : ℕ) (e : PlainEvent) → slice_get t.events k ≡ Some e → NamesPlaces t.places e) }
+    ensures places { IfOk result (λ t. ArePlaces (params_of (core_of checked.now))
+        (core_of checked.now).layouts t.places) }
+    ensures names { IfOk result (λ t. (k : ℕ) (e : PlainEvent) → slice_get t.events k ≡ Some e
+        → NamesPlaces t.places e) }
 {
     let fixed = Fixed {
         alloc,
@@ -138,7 +152,8 @@ impl Trace {
     /// The outcomes of the run, in order.
     pub fn path(&self, alloc: Global) -> Result<PathText, NoMemory>
         ensures outcomes { IfOk result (λ p. p ≡ map outcome_at self.now.events) }
-        ensures path { IfOk result (λ p. (c : PlainChecked) (b : Limits) (h : PlainInput) → IsTrace c b h self.now → p ≡ path_at (core_of c) b h) }
+        ensures path { IfOk result (λ p. (c : PlainChecked) (b : Limits) (h : PlainInput) → IsTrace c b h self.now
+            → p ≡ path_at (core_of c) b h) }
     {
         let path = outcomes(alloc, self.events.as_slice())?;
         Ok(path)

@@ -44,7 +44,8 @@ fn note(bodies: &mut Items<Option<usize>>, function: Option<u32>, at: usize)
 
 /// The index of each function's body among the items. None where it has no body.
 pub fn bodies(alloc: Global, checked: &Checked) -> Result<Items<Option<usize>>, NoMemory>
-    ensures bodies { IfOk result (λ l. AreBodies checked.now (checked.now.program).items (checked.now.program).items l) }
+    ensures bodies { IfOk result (λ l. AreBodies checked.now (checked.now.program).items
+        (checked.now.program).items l) }
     ensures many { IfOk result (λ l. length l ≡ length checked.now.funcs) }
 {
     let items = checked.program.items.as_slice();

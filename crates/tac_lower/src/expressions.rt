@@ -8,7 +8,8 @@ ghost use Rattle.cc_model.specs.Resolve.{value_of, truth_of, place_of, resolve, 
 ghost use Rattle.tac_lower.specs.Tables.{facts_of};
 ghost use Rattle.tac_lower.specs.Seen.{comparison};
 ghost use Rattle.tac_lower.specs.Forms.{operation, computed_of, located_of, decided_of};
-ghost use Rattle.tac_lower.specs.Emitted.{AddsOperation, AddsSides, AddsValue, AddsDecision, AddsCond, AddsPlace, AddsValues, AddsNumber, AddsIndex};
+ghost use Rattle.tac_lower.specs.Emitted.{AddsOperation, AddsSides, AddsValue, AddsDecision, AddsCond, AddsPlace};
+ghost use Rattle.tac_lower.specs.Emitted.{AddsValues, AddsNumber, AddsIndex};
 
 use crate::emit::{emit, here, later, next, short};
 use crate::form::{Computed, Decided, Form, Located, Operator, form_of};
@@ -62,7 +63,8 @@ impl Known<'_> {
     /// Writes the code that computes an expression's value into the temporary `n`.
     #[cycle(expressions)]
     pub fn value(&self, e: &Expr, n: u32, code: &mut Items<Instr>) -> Result<(), NoMemory>
-        ensures { OnOk result (AddsValue self.now.checked.now (value_of (facts_of self.now.checked.now self.now.function) e.now) n code.old code.new) }
+        ensures { OnOk result (AddsValue self.now.checked.now
+            (value_of (facts_of self.now.checked.now self.now.function) e.now) n code.old code.new) }
     {
         match form_of(e) {
             Form::Value(_, value) => self.computed(value, n, code),
@@ -77,7 +79,8 @@ impl Known<'_> {
     /// Writes the code that computes a value that is no place and no truth.
     #[cycle(expressions)]
     fn computed(&self, value: Computed<'_>, n: u32, code: &mut Items<Instr>) -> Result<(), NoMemory>
-        ensures { OnOk result (AddsValue self.now.checked.now (computed_of (facts_of self.now.checked.now self.now.function) value.entry) n code.old code.new) }
+        ensures { OnOk result (AddsValue self.now.checked.now
+            (computed_of (facts_of self.now.checked.now self.now.function) value.entry) n code.old code.new) }
     {
         match value {
             Computed::Number(t, constant) => {
@@ -121,7 +124,8 @@ impl Known<'_> {
     /// Writes the code that computes a truth as a value.
     #[cycle(expressions)]
     fn truth(&self, decided: Decided<'_>, n: u32, code: &mut Items<Instr>) -> Result<(), NoMemory>
-        ensures { OnOk result (AddsValue self.now.checked.now (truth (decided_of (facts_of self.now.checked.now self.now.function) decided.entry)) n code.old code.new) }
+        ensures { OnOk result (AddsValue self.now.checked.now
+            (truth (decided_of (facts_of self.now.checked.now self.now.function) decided.entry)) n code.old code.new) }
     {
         match decided {
             Decided::Compare(by, t, a, b) => self.comparison(by, t, a, b, n, code),
@@ -139,7 +143,8 @@ impl Known<'_> {
         n: u32,
         code: &mut Items<Instr>,
     ) -> Result<(), NoMemory>
-        ensures { OnOk result (AddsNumber self.now.checked.now (decided_of (facts_of self.now.checked.now self.now.function) decided.entry) n code.old code.new) }
+        ensures { OnOk result (AddsNumber self.now.checked.now
+            (decided_of (facts_of self.now.checked.now self.now.function) decided.entry) n code.old code.new) }
     {
         let end = here(code);
         emit(code, Instr::Number(n, 0))?;
@@ -161,7 +166,9 @@ impl Known<'_> {
         n: u32,
         code: &mut Items<Instr>,
     ) -> Result<(), NoMemory>
-        ensures { OnOk result (AddsDecision self.now.checked.now (compare t (comparison by) (value_of (facts_of self.now.checked.now self.now.function) a.now) (value_of (facts_of self.now.checked.now self.now.function) b.now)) n code.old code.new) }
+        ensures { OnOk result (AddsDecision self.now.checked.now
+            (compare t (comparison by) (value_of (facts_of self.now.checked.now self.now.function) a.now)
+            (value_of (facts_of self.now.checked.now self.now.function) b.now)) n code.old code.new) }
     {
         let m = next(n);
         emit(
@@ -183,7 +190,8 @@ impl Known<'_> {
         no: u32,
         code: &mut Items<Instr>,
     ) -> Result<(), NoMemory>
-        ensures { OnOk result (AddsCond self.now.checked.now (truth_of (facts_of self.now.checked.now self.now.function) e.now) n yes no code.old code.new) }
+        ensures { OnOk result (AddsCond self.now.checked.now
+            (truth_of (facts_of self.now.checked.now self.now.function) e.now) n yes no code.old code.new) }
     {
         match form_of(e) {
             Form::Truth(decided) => self.decided(decided, n, yes, no, code),
@@ -203,7 +211,9 @@ impl Known<'_> {
         no: u32,
         code: &mut Items<Instr>,
     ) -> Result<(), NoMemory>
-        ensures { OnOk result (AddsCond self.now.checked.now (test first (value_of (facts_of self.now.checked.now self.now.function) e.now)) n yes no code.old code.new) }
+        ensures { OnOk result (AddsCond self.now.checked.now
+            (test first (value_of (facts_of self.now.checked.now self.now.function) e.now)) n yes no code.old
+            code.new) }
     {
         sides(n, yes, no, code)?;
         emit(
@@ -223,7 +233,8 @@ impl Known<'_> {
         no: u32,
         code: &mut Items<Instr>,
     ) -> Result<(), NoMemory>
-        ensures { OnOk result (AddsCond self.now.checked.now (decided_of (facts_of self.now.checked.now self.now.function) decided.entry) n yes no code.old code.new) }
+        ensures { OnOk result (AddsCond self.now.checked.now
+            (decided_of (facts_of self.now.checked.now self.now.function) decided.entry) n yes no code.old code.new) }
     {
         match decided {
             Decided::Compare(by, t, a, b) => {
@@ -250,7 +261,8 @@ impl Known<'_> {
     /// Writes the code that computes a pointer to a place into the temporary `n`.
     #[cycle(expressions)]
     pub fn place(&self, e: &Expr, n: u32, code: &mut Items<Instr>) -> Result<(), NoMemory>
-        ensures { OnOk result (AddsPlace self.now.checked.now (place_of (facts_of self.now.checked.now self.now.function) e.now) n code.old code.new) }
+        ensures { OnOk result (AddsPlace self.now.checked.now
+            (place_of (facts_of self.now.checked.now self.now.function) e.now) n code.old code.new) }
     {
         match form_of(e) {
             Form::Place(_, place) => self.located(place, n, code),
@@ -262,7 +274,8 @@ impl Known<'_> {
     /// Writes the code that computes a pointer to a place.
     #[cycle(expressions)]
     fn located(&self, place: Located<'_>, n: u32, code: &mut Items<Instr>) -> Result<(), NoMemory>
-        ensures { OnOk result (AddsPlace self.now.checked.now (located_of (facts_of self.now.checked.now self.now.function) place.entry) n code.old code.new) }
+        ensures { OnOk result (AddsPlace self.now.checked.now
+            (located_of (facts_of self.now.checked.now self.now.function) place.entry) n code.old code.new) }
     {
         match place {
             Located::Name(t) => self.variable(t, n, code),
@@ -295,7 +308,8 @@ impl Known<'_> {
     /// Writes the code of arguments, from the temporary `n` on.
     #[cycle(expressions)]
     pub fn arguments(&self, args: &[Expr], n: u32, code: &mut Items<Instr>) -> Result<(), NoMemory>
-        ensures { OnOk result (AddsValues self.now.checked.now (vals_of (map (resolve (facts_of self.now.checked.now self.now.function)) args.now)) n code.old code.new) }
+        ensures { OnOk result (AddsValues self.now.checked.now
+            (vals_of (map (resolve (facts_of self.now.checked.now self.now.function)) args.now)) n code.old code.new) }
     {
         let mut left = args.len();
         while left > 0 {
@@ -307,7 +321,9 @@ impl Known<'_> {
 
     /// Writes a pointer to the variable that the name at a token means.
     fn variable(&self, t: u32, n: u32, code: &mut Items<Instr>) -> Result<(), NoMemory>
-        ensures { OnOk result (AddsPlace self.now.checked.now (variable_named (facts_of self.now.checked.now self.now.function) (name_at self.now.checked.now t)) n code.old code.new) }
+        ensures { OnOk result (AddsPlace self.now.checked.now
+            (variable_named (facts_of self.now.checked.now self.now.function)
+            (name_at self.now.checked.now t)) n code.old code.new) }
     {
         match self.variable_at(t) {
             Variable::Local(slot) => emit(code, Instr::Slot(n, slot)),
@@ -317,7 +333,9 @@ impl Known<'_> {
 
     /// Writes a step into an array: the array stands in `n`, the index in `m`.
     fn index(&self, t: u32, n: u32, m: u32, code: &mut Items<Instr>) -> Result<(), NoMemory>
-        ensures { OnOk result (AddsIndex self.now.checked.now t ((facts_of self.now.checked.now self.now.function).lengths t) ((facts_of self.now.checked.now self.now.function).widths t) n m code.old code.new) }
+        ensures { OnOk result (AddsIndex self.now.checked.now t
+            ((facts_of self.now.checked.now self.now.function).lengths t)
+            ((facts_of self.now.checked.now self.now.function).widths t) n m code.old code.new) }
     {
         let site = self.site_at(SiteKind::Index, t);
         emit(

@@ -1,6 +1,7 @@
 //! Where instructions lead.
 
-ghost use Rattle.std.specs.Prelude.{◌≡◌, ◌<◌, ◌≤◌, ◌↔◌, ℕ, suc, max, nat_le, if◌then◌else◌, IsTrue, IfOk, OnOk, Some, None, length, slice_get};
+ghost use Rattle.std.specs.Prelude.{◌≡◌, ◌<◌, ◌≤◌, ◌↔◌, ℕ, suc, max, nat_le, if◌then◌else◌, IsTrue, IfOk, OnOk, Some};
+ghost use Rattle.std.specs.Prelude.{None, length, slice_get};
 ghost use Rattle.tac_lower.specs.Finished.{first_in};
 ghost use Rattle.tac_lower.specs.Flow.{way, decided, last_first, AreThose, Calls, AreSuccessors, side, OutcomeLeadsTo};
 ghost use Rattle.tac_lower.specs.Edges.{place_at, pair_of, two_of, Behind, BehindUpTo, Reached};
@@ -132,7 +133,8 @@ impl Tac {
     /// Adds the place behind the instruction, where that calls a function that begins at `first`.
     fn add_behind(&self, first: u32, at: usize, places: &mut Items<u32>) -> Result<(), NoMemory>
         requires { at < 18446744073709551615 }
-        ensures { OnOk result (AreThose (BehindUpTo self.now first at) places.old → AreThose (BehindUpTo self.now first (suc at)) places.new) }
+        ensures { OnOk result (AreThose (BehindUpTo self.now first at) places.old
+            → AreThose (BehindUpTo self.now first (suc at)) places.new) }
     {
         if self.calls(first, at) {
             if let Some(next) = self.place_at(at + 1) {
@@ -190,9 +192,13 @@ impl Tac {
         }
     }
 
-    /// The places to which the flow edges of the instruction at a place lead, ascending, each once. None past the end of the code.
+    /// The places to which the flow edges of the instruction at a place lead, ascending, each once. None past the end
+    /// of the code.
     ///
-    /// An instruction leads to the next one, a jump to its target alone, a jump on zero to both, a call to its function's first instruction alone, a return to behind each call of its function, a stop nowhere. The function of an instruction is the one with the greatest `first` that isn't above it. Only instructions of the code are led to.
+    /// An instruction leads to the next one, a jump to its target alone, a jump on zero to both, a call to its
+    /// function's first instruction alone, a return to behind each call of its function, a stop nowhere. The function
+    /// of an instruction is the one with the greatest `first` that isn't above it. Only instructions of the code are
+    /// led to.
     pub fn successors(&self, alloc: Global, at: u32) -> Result<Items<u32>, NoMemory>
         ensures { IfOk result (λ l. AreSuccessors self.now at l) }
     {
@@ -213,9 +219,11 @@ impl Tac {
         }
     }
 
-    /// The place to which an outcome of the decision at a place leads. None where no decision stands there, and where no instruction is led to.
+    /// The place to which an outcome of the decision at a place leads. None where no decision stands there, and where
+    /// no instruction is led to.
     ///
-    /// Where a jump on zero on the result stands behind the decision, an outcome leads to the matching target of that jump, else to the next instruction.
+    /// Where a jump on zero on the result stands behind the decision, an outcome leads to the matching target of that
+    /// jump, else to the next instruction.
     pub fn outcome_successor(&self, at: u32, outcome: bool) -> Option<u32>
         ensures { (to : ℕ) → (result ≡ Some to) ↔ OutcomeLeadsTo self.now at outcome to }
     {

@@ -21,7 +21,13 @@ impl Known<'_> {
         body: &[Part],
         code: &mut Items<Instr>,
     ) -> Result<(), NoMemory>
-        ensures { OnOk result ((params : List Cell) → AddsFunc self.now.checked.now (record { params = params; result = cell_of given; body = body_of (facts_of self.now.checked.now self.now.function) body.now }) code.old code.new) }
+        ensures { OnOk result ((params : List Cell)
+            → AddsFunc self.now.checked.now (record {
+              params = params;
+              result = cell_of given;
+              body = body_of
+                  (facts_of self.now.checked.now self.now.function) body.now;
+            }) code.old code.new) }
     {
         self.returned(given, &None, code)?;
         let end = here(code);

@@ -3,7 +3,8 @@
 ghost use Rattle.std.specs.Prelude.{◌≡◌, ◌<◌, length, slice_get, position, nat_eq};
 ghost use Rattle.cc_model.specs.declared.checked.SiteKind.{SiteKind};
 ghost use Rattle.cc_model.specs.Core.{local, global};
-ghost use Rattle.cc_model.specs.CheckedProgram.{name_at, cells_at, layout_at, facts_in, expression_type, target_id, array_length, element_id, is_void_ty};
+ghost use Rattle.cc_model.specs.CheckedProgram.{name_at, cells_at, layout_at, facts_in, expression_type, target_id};
+ghost use Rattle.cc_model.specs.CheckedProgram.{array_length, element_id, is_void_ty};
 ghost use Rattle.cc_model.specs.CheckedProgram.{expression_tokens};
 ghost use Rattle.cc_model.specs.Resolve.{slot_named, function_named, offset_named, variable_named};
 ghost use Rattle.tac_lower.specs.Tables.{AreTables, facts_of, site_for};
@@ -96,7 +97,8 @@ impl Known<'_> {
     /// The type of the variable that a declarator's name at a token declares.
     #[tactic(auto, unfolding(crate::specs::Tables::facts_of))]
     pub fn declared_at(&self, t: u32) -> TyId
-        ensures { layout_at self.now.checked.now result.0 ≡ (facts_of self.now.checked.now self.now.function).declared t }
+        ensures { layout_at self.now.checked.now result.0
+            ≡ (facts_of self.now.checked.now self.now.function).declared t }
     {
         let Some(sig) = self.checked.funcs.get(self.function as usize) else {
             return TyId(0);
@@ -144,7 +146,8 @@ impl Known<'_> {
     /// The variable that the name at a token means.
     #[tactic(auto, unfolding(crate::specs::Tables::facts_of))]
     pub fn variable_at(&self, t: u32) -> Variable
-        ensures { variable_place result ≡ variable_named (facts_of self.now.checked.now self.now.function) (name_at self.now.checked.now t) }
+        ensures { variable_place result ≡ variable_named (facts_of self.now.checked.now self.now.function)
+            (name_at self.now.checked.now t) }
     {
         match self.name(t) {
             Some(Target::Local(slot)) => Variable::Local(slot),
@@ -166,7 +169,8 @@ impl Known<'_> {
     /// The type of the expression at a token, or of the one that is so many numbers behind it.
     fn type_at(&self, t: u32, behind: usize) -> Option<Ty>
         requires { behind < 2 }
-        ensures { result ≡ expression_type self.now.checked.now (expression_tokens (self.now.checked.now.program).items) t behind }
+        ensures { result ≡ expression_type self.now.checked.now
+            (expression_tokens (self.now.checked.now.program).items) t behind }
     {
         let number = self.number_at(t)?;
         let ty = self.checked.expr_tys.get(number as usize + behind)?;
@@ -199,7 +203,8 @@ impl Known<'_> {
     /// The number of cells of that array's element, where it fits 32 bits.
     #[tactic(auto, unfolding(crate::specs::Tables::facts_of))]
     pub fn width_at(&self, t: u32) -> u32
-        ensures { (facts_of self.now.checked.now self.now.function).widths t < 4294967296 → result ≡ (facts_of self.now.checked.now self.now.function).widths t }
+        ensures { (facts_of self.now.checked.now self.now.function).widths t < 4294967296
+            → result ≡ (facts_of self.now.checked.now self.now.function).widths t }
     {
         match self.type_at(t, 1) {
             Some(Ty::Array(element, _)) => self.cells_in(element.0),
@@ -209,7 +214,8 @@ impl Known<'_> {
 
     /// The number of cells of a type, where it fits 32 bits.
     fn cells_in(&self, ty: u32) -> u32
-        ensures { length (cells_at self.now.checked.now ty) < 4294967296 → result ≡ length (cells_at self.now.checked.now ty) }
+        ensures { length (cells_at self.now.checked.now ty) < 4294967296
+            → result ≡ length (cells_at self.now.checked.now ty) }
     {
         match self.checked.layouts.get(ty as usize) {
             Some(layout) => short(layout.len()),

@@ -67,7 +67,8 @@ impl Known<'_> {
     /// Writes the code of the function, which has this body.
     #[tactic(auto, unfolding(crate::specs::Tables::facts_of))]
     fn with_body(&self, f: &Func, code: &mut Items<Instr>) -> Result<(), NoMemory>
-        ensures { OnOk result (AddsFunc self.now.checked.now (func_of (facts_of self.now.checked.now self.now.function) f.now) code.old code.new) }
+        ensures { OnOk result (AddsFunc self.now.checked.now
+            (func_of (facts_of self.now.checked.now self.now.function) f.now) code.old code.new) }
     {
         self.function(self.result_at(f.name), f.body.as_slice(), code)
     }
@@ -82,7 +83,8 @@ impl Known<'_> {
     /// Writes the code of the function whose body an item is.
     #[tactic(auto, unfolding(crate::specs::Tables::facts_of))]
     fn from_item(&self, item: &Item, code: &mut Items<Instr>) -> Result<(), NoMemory>
-        ensures { OnOk result (AddsFunc self.now.checked.now (func_if self.now.checked.now self.now.function (func_in (Some item.now))) code.old code.new) }
+        ensures { OnOk result (AddsFunc self.now.checked.now
+            (func_if self.now.checked.now self.now.function (func_in (Some item.now))) code.old code.new) }
     {
         match item {
             Item::Func(f) => self.with_body(f, code),
@@ -92,7 +94,9 @@ impl Known<'_> {
 
     /// Writes the code of the function whose body's item has this index.
     fn define(&self, at: Option<usize>, code: &mut Items<Instr>) -> Result<(), NoMemory>
-        ensures { OnOk result (AddsFunc self.now.checked.now (func_if self.now.checked.now self.now.function (func_at (self.now.checked.now.program).items (Some at))) code.old code.new) }
+        ensures { OnOk result (AddsFunc self.now.checked.now
+            (func_if self.now.checked.now self.now.function
+            (func_at (self.now.checked.now.program).items (Some at))) code.old code.new) }
     {
         let Some(at) = at else {
             return self.without_body(code);
@@ -104,7 +108,8 @@ impl Known<'_> {
     }
 }
 
-/// Writes the code of function `n`, and tells what is known of it by then: its `first` is how many instructions stand behind its first one.
+/// Writes the code of function `n`, and tells what is known of it by then: its `first` is how many instructions stand
+/// behind its first one.
 fn defined(
     checked: &Checked,
     tables: &Tables,
@@ -114,7 +119,8 @@ fn defined(
     code: &mut Items<Instr>,
 ) -> Result<TacFunc, NoMemory>
     requires { AreTables checked.now tables.now }
-    ensures { IfOk result (λ f. IsDefined checked.now (func_if checked.now n (func_at (checked.now.program).items (Some at))) sig.now code.old code.new f) }
+    ensures { IfOk result (λ f. IsDefined checked.now
+        (func_if checked.now n (func_at (checked.now.program).items (Some at))) sig.now code.old code.new f) }
 {
     let function = counted(n)?;
     let known = Known {
@@ -180,7 +186,8 @@ fn room(count: usize) -> Result<u32, NoMemory>
 /// The three-address code of a checked program.
 pub fn lower(alloc: Global, checked: &Checked) -> Result<Tac, NoMemory>
     requires { (text : ℕ → Text) × (tokens : List Token) × (entry : Text) × IsChecked text tokens entry checked.now }
-    ensures compiles { IfOk result (λ t. Compiles (core_of checked.now) (map (seen checked.now) t.code) (λ f. first_in t f)) }
+    ensures compiles { IfOk result (λ t. Compiles (core_of checked.now) (map (seen checked.now) t.code)
+        (λ f. first_in t f)) }
     ensures functions { IfOk result (λ t. AreFuncs checked.now.funcs t.funcs) }
     ensures temps { IfOk result (λ t. TempsAbove t.funcs t.code) }
     ensures globals { IfOk result (λ t. t.globals ≡ length (cells_of_all checked.now checked.now.globals)) }

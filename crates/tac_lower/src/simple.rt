@@ -2,11 +2,13 @@
 
 ghost use Rattle.std.specs.Prelude.{OnOk, map, Some};
 ghost use Rattle.cc_model.specs.Core.{assign, update, bump, perform, assert, assume};
-ghost use Rattle.cc_model.specs.Resolve.{value_of, place_of, truth_of, resolve, vals_of, simple_of, simple_if, truth_if, declarator_of, function_named};
+ghost use Rattle.cc_model.specs.Resolve.{value_of, place_of, truth_of, resolve, vals_of, simple_of, simple_if};
+ghost use Rattle.cc_model.specs.Resolve.{truth_if, declarator_of, function_named};
 ghost use Rattle.cc_model.specs.CheckedProgram.{name_at};
 ghost use Rattle.tac_lower.specs.Tables.{facts_of};
 ghost use Rattle.tac_lower.specs.Forms.{operation};
-ghost use Rattle.tac_lower.specs.Emitted.{AddsSimple, AddsSimpleIf, AddsDeclarator, AddsDeclarators, AddsCondIf, AddsLocal};
+ghost use Rattle.tac_lower.specs.Emitted.{AddsSimple, AddsSimpleIf, AddsDeclarator, AddsDeclarators, AddsCondIf};
+ghost use Rattle.tac_lower.specs.Emitted.{AddsLocal};
 
 use crate::emit::{emit, here, short};
 use crate::form::Operator;
@@ -19,7 +21,8 @@ use cc_model::trees::{Declared, Simple};
 impl Known<'_> {
     /// Writes the code of a simple statement.
     pub fn simple(&self, s: &Simple, code: &mut Items<Instr>) -> Result<(), NoMemory>
-        ensures { OnOk result (AddsSimple self.now.checked.now (simple_of (facts_of self.now.checked.now self.now.function) s.now) code.old code.new) }
+        ensures { OnOk result (AddsSimple self.now.checked.now
+            (simple_of (facts_of self.now.checked.now self.now.function) s.now) code.old code.new) }
     {
         match s {
             Simple::Assign(_, place, e) => self.assign(place, e, code),
@@ -49,7 +52,9 @@ impl Known<'_> {
 
     /// Writes the code of `=`: the value is computed before the place.
     fn assign(&self, place: &Expr, e: &Expr, code: &mut Items<Instr>) -> Result<(), NoMemory>
-        ensures { OnOk result (AddsSimple self.now.checked.now (assign (place_of (facts_of self.now.checked.now self.now.function) place.now) (value_of (facts_of self.now.checked.now self.now.function) e.now)) code.old code.new) }
+        ensures { OnOk result (AddsSimple self.now.checked.now
+            (assign (place_of (facts_of self.now.checked.now self.now.function) place.now)
+            (value_of (facts_of self.now.checked.now self.now.function) e.now)) code.old code.new) }
     {
         emit(code, Instr::Store(1, 0))?;
         self.place(place, 1, code)?;
@@ -65,7 +70,9 @@ impl Known<'_> {
         e: &Expr,
         code: &mut Items<Instr>,
     ) -> Result<(), NoMemory>
-        ensures { OnOk result (AddsSimple self.now.checked.now (update t (operation operator) (place_of (facts_of self.now.checked.now self.now.function) place.now) (value_of (facts_of self.now.checked.now self.now.function) e.now)) code.old code.new) }
+        ensures { OnOk result (AddsSimple self.now.checked.now
+            (update t (operation operator) (place_of (facts_of self.now.checked.now self.now.function) place.now)
+            (value_of (facts_of self.now.checked.now self.now.function) e.now)) code.old code.new) }
     {
         emit(code, Instr::Store(1, 2))?;
         self.operation(operator, t, 2, code)?;
@@ -84,7 +91,9 @@ impl Known<'_> {
         place: &Expr,
         code: &mut Items<Instr>,
     ) -> Result<(), NoMemory>
-        ensures { OnOk result (AddsSimple self.now.checked.now (bump t (operation operator) (place_of (facts_of self.now.checked.now self.now.function) place.now)) code.old code.new) }
+        ensures { OnOk result (AddsSimple self.now.checked.now
+            (bump t (operation operator) (place_of
+            (facts_of self.now.checked.now self.now.function) place.now)) code.old code.new) }
     {
         emit(code, Instr::Store(0, 1))?;
         self.operation(operator, t, 1, code)?;
@@ -96,7 +105,9 @@ impl Known<'_> {
 
     /// Writes the code of a call whose result is not used.
     fn perform(&self, t: u32, args: &[Expr], code: &mut Items<Instr>) -> Result<(), NoMemory>
-        ensures { OnOk result (AddsSimple self.now.checked.now (perform (function_named (name_at self.now.checked.now t)) (vals_of (map (resolve (facts_of self.now.checked.now self.now.function)) args.now))) code.old code.new) }
+        ensures { OnOk result (AddsSimple self.now.checked.now
+            (perform (function_named (name_at self.now.checked.now t))
+            (vals_of (map (resolve (facts_of self.now.checked.now self.now.function)) args.now))) code.old code.new) }
     {
         emit(
             code,
@@ -108,7 +119,8 @@ impl Known<'_> {
 
     /// Writes the code of `assert`.
     fn assert(&self, t: u32, e: &Expr, code: &mut Items<Instr>) -> Result<(), NoMemory>
-        ensures { OnOk result (AddsSimple self.now.checked.now (assert t (truth_of (facts_of self.now.checked.now self.now.function) e.now)) code.old code.new) }
+        ensures { OnOk result (AddsSimple self.now.checked.now
+            (assert t (truth_of (facts_of self.now.checked.now self.now.function) e.now)) code.old code.new) }
     {
         let end = here(code);
         emit(code, Instr::Stop(FaultKind::Assert, self.line_at(t)))?;
@@ -119,7 +131,8 @@ impl Known<'_> {
 
     /// Writes the code of `assume`.
     fn assume(&self, e: &Expr, code: &mut Items<Instr>) -> Result<(), NoMemory>
-        ensures { OnOk result (AddsSimple self.now.checked.now (assume (truth_of (facts_of self.now.checked.now self.now.function) e.now)) code.old code.new) }
+        ensures { OnOk result (AddsSimple self.now.checked.now
+            (assume (truth_of (facts_of self.now.checked.now self.now.function) e.now)) code.old code.new) }
     {
         let end = here(code);
         emit(code, Instr::Unless(0))?;
@@ -131,7 +144,8 @@ impl Known<'_> {
 
     /// Writes the code of a simple statement, where there is one.
     pub fn simple_if(&self, s: &Option<Simple>, code: &mut Items<Instr>) -> Result<(), NoMemory>
-        ensures { OnOk result (AddsSimpleIf self.now.checked.now (simple_if (facts_of self.now.checked.now self.now.function) s.now) code.old code.new) }
+        ensures { OnOk result (AddsSimpleIf self.now.checked.now
+            (simple_if (facts_of self.now.checked.now self.now.function) s.now) code.old code.new) }
     {
         match s {
             Some(s) => {
@@ -150,7 +164,8 @@ impl Known<'_> {
         no: u32,
         code: &mut Items<Instr>,
     ) -> Result<(), NoMemory>
-        ensures { OnOk result (AddsCondIf self.now.checked.now (truth_if (facts_of self.now.checked.now self.now.function) e.now) yes no code.old code.new) }
+        ensures { OnOk result (AddsCondIf self.now.checked.now
+            (truth_if (facts_of self.now.checked.now self.now.function) e.now) yes no code.old code.new) }
     {
         match e {
             Some(e) => self.condition(e, 0, yes, no, code),
@@ -160,7 +175,8 @@ impl Known<'_> {
 
     /// Writes the code of a declarator of a local.
     pub fn declared(&self, d: &Declared, code: &mut Items<Instr>) -> Result<(), NoMemory>
-        ensures { OnOk result (AddsDeclarator self.now.checked.now (declarator_of (facts_of self.now.checked.now self.now.function) d.now) code.old code.new) }
+        ensures { OnOk result (AddsDeclarator self.now.checked.now
+            (declarator_of (facts_of self.now.checked.now self.now.function) d.now) code.old code.new) }
     {
         let slot = self.slot_at(d.declarator.name);
         match &d.initializer {
@@ -176,7 +192,8 @@ impl Known<'_> {
 
     /// Writes the code that makes a local.
     fn local(&self, t: u32, slot: u32, code: &mut Items<Instr>) -> Result<(), NoMemory>
-        ensures { OnOk result (AddsLocal self.now.checked.now slot ((facts_of self.now.checked.now self.now.function).declared t) code.old code.new) }
+        ensures { OnOk result (AddsLocal self.now.checked.now slot
+            ((facts_of self.now.checked.now self.now.function).declared t) code.old code.new) }
     {
         emit(code, Instr::Local(slot, self.declared_at(t)))?;
         emit(code, Instr::Step)
@@ -184,7 +201,8 @@ impl Known<'_> {
 
     /// Writes the code of declarators.
     pub fn declarators(&self, parts: &[Declared], code: &mut Items<Instr>) -> Result<(), NoMemory>
-        ensures { OnOk result (AddsDeclarators self.now.checked.now (map (declarator_of (facts_of self.now.checked.now self.now.function)) parts.now) code.old code.new) }
+        ensures { OnOk result (AddsDeclarators self.now.checked.now
+            (map (declarator_of (facts_of self.now.checked.now self.now.function)) parts.now) code.old code.new) }
     {
         let mut left = parts.len();
         while left > 0 {

@@ -4,7 +4,8 @@ ghost use Rattle.std.specs.Prelude.{◌≡◌, List, ◌∷◌, length, map, sli
 ghost use Rattle.cc_model.specs.CheckedProgram.{cell_of};
 ghost use Rattle.cc_model.specs.Core.{block, choice, choice_else, loop, repeat, loop_for};
 ghost use Rattle.tac_lower.specs.declared.instr.Instr.{Instr};
-ghost use Rattle.cc_model.specs.Resolve.{Piece, stmt_of, piece_of, parts_of, body_of, truth_of, truth_if, simple_if, value_if, head_simple, head_declarators};
+ghost use Rattle.cc_model.specs.Resolve.{Piece, stmt_of, piece_of, parts_of, body_of, truth_of, truth_if, simple_if};
+ghost use Rattle.cc_model.specs.Resolve.{value_if, head_simple, head_declarators};
 ghost use Rattle.tac_lower.specs.declared.instr.Instr.TheVariants.{Jump};
 ghost use Rattle.tac_lower.specs.Tables.{facts_of};
 ghost use Rattle.tac_lower.specs.Emitted.{AddsReturn, AddsStmt, AddsParts, AddsSimpleIf, AddsDeclarators};
@@ -33,7 +34,8 @@ impl Known<'_> {
         e: &Option<Expr>,
         code: &mut Items<Instr>,
     ) -> Result<(), NoMemory>
-        ensures { OnOk result (AddsReturn self.now.checked.now (cell_of given) (value_if (facts_of self.now.checked.now self.now.function) e.now) code.old code.new) }
+        ensures { OnOk result (AddsReturn self.now.checked.now (cell_of given)
+            (value_if (facts_of self.now.checked.now self.now.function) e.now) code.old code.new) }
     {
         emit(code, Instr::Return(0))?;
         match e {
@@ -45,7 +47,8 @@ impl Known<'_> {
         }
     }
 
-    /// Writes the code of a statement: `brk` instructions stand behind where `break` leads to, and `cont` behind where `continue` does.
+    /// Writes the code of a statement: `brk` instructions stand behind where `break` leads to, and `cont` behind where
+    /// `continue` does.
     #[cycle(statements)]
     pub fn statement(
         &self,
@@ -55,7 +58,8 @@ impl Known<'_> {
         cont: u32,
         code: &mut Items<Instr>,
     ) -> Result<(), NoMemory>
-        ensures { OnOk result (AddsStmt self.now.checked.now (cell_of given) (stmt_of (facts_of self.now.checked.now self.now.function) s.now) brk cont code.old code.new) }
+        ensures { OnOk result (AddsStmt self.now.checked.now (cell_of given)
+            (stmt_of (facts_of self.now.checked.now self.now.function) s.now) brk cont code.old code.new) }
     {
         match s {
             Stmt::Empty => emit(code, Instr::Step),
@@ -96,7 +100,8 @@ impl Known<'_> {
         cont: u32,
         code: &mut Items<Instr>,
     ) -> Result<(), NoMemory>
-        ensures { OnOk result (AddsStmt self.now.checked.now (cell_of given) (block (body_of (facts_of self.now.checked.now self.now.function) parts.now)) brk cont code.old code.new) }
+        ensures { OnOk result (AddsStmt self.now.checked.now (cell_of given)
+            (block (body_of (facts_of self.now.checked.now self.now.function) parts.now)) brk cont code.old code.new) }
     {
         self.parts(given, parts, brk, cont, code)?;
         emit(code, Instr::Step)
@@ -113,7 +118,9 @@ impl Known<'_> {
         cont: u32,
         code: &mut Items<Instr>,
     ) -> Result<(), NoMemory>
-        ensures { OnOk result (AddsStmt self.now.checked.now (cell_of given) (choice (truth_of (facts_of self.now.checked.now self.now.function) c.now) (stmt_of (facts_of self.now.checked.now self.now.function) a.now)) brk cont code.old code.new) }
+        ensures { OnOk result (AddsStmt self.now.checked.now (cell_of given)
+            (choice (truth_of (facts_of self.now.checked.now self.now.function) c.now)
+            (stmt_of (facts_of self.now.checked.now self.now.function) a.now)) brk cont code.old code.new) }
     {
         let end = here(code);
         self.statement(given, a, brk, cont, code)?;
@@ -134,7 +141,10 @@ impl Known<'_> {
         cont: u32,
         code: &mut Items<Instr>,
     ) -> Result<(), NoMemory>
-        ensures { OnOk result (AddsStmt self.now.checked.now (cell_of given) (choice_else (truth_of (facts_of self.now.checked.now self.now.function) c.now) (stmt_of (facts_of self.now.checked.now self.now.function) a.now) (stmt_of (facts_of self.now.checked.now self.now.function) b.now)) brk cont code.old code.new) }
+        ensures { OnOk result (AddsStmt self.now.checked.now (cell_of given)
+            (choice_else (truth_of (facts_of self.now.checked.now self.now.function) c.now)
+            (stmt_of (facts_of self.now.checked.now self.now.function) a.now)
+            (stmt_of (facts_of self.now.checked.now self.now.function) b.now)) brk cont code.old code.new) }
     {
         let end = here(code);
         self.statement(given, b, brk, cont, code)?;
@@ -157,7 +167,9 @@ impl Known<'_> {
         cont: u32,
         code: &mut Items<Instr>,
     ) -> Result<(), NoMemory>
-        ensures { OnOk result (AddsStmt self.now.checked.now (cell_of given) (loop (truth_of (facts_of self.now.checked.now self.now.function) c.now) (stmt_of (facts_of self.now.checked.now self.now.function) body.now)) brk cont code.old code.new) }
+        ensures { OnOk result (AddsStmt self.now.checked.now (cell_of given)
+            (loop (truth_of (facts_of self.now.checked.now self.now.function) c.now)
+            (stmt_of (facts_of self.now.checked.now self.now.function) body.now)) brk cont code.old code.new) }
     {
         let at = code.len();
         let end = here(code);
@@ -182,7 +194,9 @@ impl Known<'_> {
         cont: u32,
         code: &mut Items<Instr>,
     ) -> Result<(), NoMemory>
-        ensures { OnOk result (AddsStmt self.now.checked.now (cell_of given) (repeat (stmt_of (facts_of self.now.checked.now self.now.function) body.now) (truth_of (facts_of self.now.checked.now self.now.function) c.now)) brk cont code.old code.new) }
+        ensures { OnOk result (AddsStmt self.now.checked.now (cell_of given)
+            (repeat (stmt_of (facts_of self.now.checked.now self.now.function) body.now)
+            (truth_of (facts_of self.now.checked.now self.now.function) c.now)) brk cont code.old code.new) }
     {
         let at = code.len();
         let end = here(code);
@@ -209,7 +223,12 @@ impl Known<'_> {
         cont: u32,
         code: &mut Items<Instr>,
     ) -> Result<(), NoMemory>
-        ensures { OnOk result (AddsStmt self.now.checked.now (cell_of given) (loop_for (head_simple (facts_of self.now.checked.now self.now.function) head.now) (head_declarators (facts_of self.now.checked.now self.now.function) head.now) (truth_if (facts_of self.now.checked.now self.now.function) c.now) (simple_if (facts_of self.now.checked.now self.now.function) next.now) (stmt_of (facts_of self.now.checked.now self.now.function) body.now)) brk cont code.old code.new) }
+        ensures { OnOk result (AddsStmt self.now.checked.now (cell_of given)
+            (loop_for (head_simple (facts_of self.now.checked.now self.now.function) head.now)
+            (head_declarators (facts_of self.now.checked.now self.now.function) head.now)
+            (truth_if (facts_of self.now.checked.now self.now.function) c.now)
+            (simple_if (facts_of self.now.checked.now self.now.function) next.now)
+            (stmt_of (facts_of self.now.checked.now self.now.function) body.now)) brk cont code.old code.new) }
     {
         let at = code.len();
         let end = here(code);
@@ -236,7 +255,8 @@ impl Known<'_> {
         cont: u32,
         code: &mut Items<Instr>,
     ) -> Result<(), NoMemory>
-        ensures { OnOk result (AddsParts self.now.checked.now (cell_of given) (body_of (facts_of self.now.checked.now self.now.function) parts.now) brk cont code.old code.new) }
+        ensures { OnOk result (AddsParts self.now.checked.now (cell_of given)
+            (body_of (facts_of self.now.checked.now self.now.function) parts.now) brk cont code.old code.new) }
     {
         let mut left = parts.len();
         while left > 0 {
@@ -256,7 +276,10 @@ impl Known<'_> {
         cont: u32,
         code: &mut Items<Instr>,
     ) -> Result<(), NoMemory>
-        ensures { OnOk result ((l : List Piece) (base : List Instr) → AddsParts self.now.checked.now (cell_of given) (parts_of l) brk cont base code.old → AddsParts self.now.checked.now (cell_of given) (parts_of (piece_of (facts_of self.now.checked.now self.now.function) p.now ∷ l)) brk cont base code.new) }
+        ensures { OnOk result ((l : List Piece) (base : List Instr)
+            → AddsParts self.now.checked.now (cell_of given) (parts_of l) brk cont base code.old
+            → AddsParts self.now.checked.now (cell_of given)
+            (parts_of (piece_of (facts_of self.now.checked.now self.now.function) p.now ∷ l)) brk cont base code.new) }
     {
         match p {
             Part::Decl(decl) => self.declarators(decl.parts.as_slice(), code),
@@ -266,7 +289,8 @@ impl Known<'_> {
 
     /// Writes the code of the declarators in the head of a `for`.
     fn head_locals(&self, head: &Head, code: &mut Items<Instr>) -> Result<(), NoMemory>
-        ensures { OnOk result (AddsDeclarators self.now.checked.now (head_declarators (facts_of self.now.checked.now self.now.function) head.now) code.old code.new) }
+        ensures { OnOk result (AddsDeclarators self.now.checked.now
+            (head_declarators (facts_of self.now.checked.now self.now.function) head.now) code.old code.new) }
     {
         match head {
             Head::Decl(decl) => self.declarators(decl.parts.as_slice(), code),
@@ -276,7 +300,8 @@ impl Known<'_> {
 
     /// Writes the code of the simple statement in the head of a `for`.
     fn head_start(&self, head: &Head, code: &mut Items<Instr>) -> Result<(), NoMemory>
-        ensures { OnOk result (AddsSimpleIf self.now.checked.now (head_simple (facts_of self.now.checked.now self.now.function) head.now) code.old code.new) }
+        ensures { OnOk result (AddsSimpleIf self.now.checked.now
+            (head_simple (facts_of self.now.checked.now self.now.function) head.now) code.old code.new) }
     {
         match head {
             Head::Decl(_) => Ok(()),

@@ -1,6 +1,7 @@
 //! The tables of a checked program.
 
-ghost use Rattle.std.specs.Prelude.{◌≡◌, ◌<◌, ℕ, EachIndex, length, nat_eq, position, slice_get, slice_index, slice_set, IfOk, OnOk};
+ghost use Rattle.std.specs.Prelude.{◌≡◌, ◌<◌, ℕ, EachIndex, length, nat_eq, position, slice_get, slice_index};
+ghost use Rattle.std.specs.Prelude.{slice_set, IfOk, OnOk};
 ghost use Rattle.cc_model.specs.declared.checked.SiteKind.{SiteKind};
 ghost use Rattle.cc_model.specs.CheckedProgram.{flat, cells_at, cells_of_all};
 ghost use Rattle.tac_lower.specs.Seen.{site_token};
@@ -112,7 +113,8 @@ fn span(checked: &Checked) -> Result<usize, NoMemory>
 
 /// The sites at each token.
 fn sites(alloc: Global, checked: &Checked) -> Result<Items<SitesAt>, NoMemory>
-    ensures { IfOk result (λ l. (kind : SiteKind) (k : ℕ) → HasSite checked.now kind k → site_token checked.now kind (site_in kind (slice_get l k)) ≡ k) }
+    ensures { IfOk result (λ l. (kind : SiteKind) (k : ℕ) → HasSite checked.now kind k
+        → site_token checked.now kind (site_in kind (slice_get l k)) ≡ k) }
 {
     let none = no_sites(counted(checked.sites.len())?);
     let mut table = Items::from_vec(vec![in alloc; none; span(checked)?]?);

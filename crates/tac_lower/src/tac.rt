@@ -7,7 +7,8 @@ use crate::instr::Instr;
 use cc_model::SiteId;
 use cc_model::base::Items;
 
-/// A function's code: where it begins, and how many parameters, temporaries and slots it has. One without a body has the code of an empty one. The temporaries are all that the code of the program names.
+/// A function's code: where it begins, and how many parameters, temporaries and slots it has. One without a body has
+/// the code of an empty one. The temporaries are all that the code of the program names.
 #[derive(Clone, Copy)]
 pub struct TacFunc {
     pub first: u32,
