@@ -28,7 +28,7 @@ use Rattle.input_map.specs.declared.faults.MapFault.{MapFault}
 use Rattle.input_map.specs.CellFaults.{Refused}
 use Rattle.input_map.specs.Maps.{IsMap}
 use Rattle.concolic_cli.specs.Concolic.{Call, HasNoCommand, IsSource, IsSourceOf, Headline, NothingMissedBut, PartStands, of_task, of_make, SourceIsRefused, MadeIsRefused, FileFault, NamesFile, its_source, its_tests, FileIsRefused, IsRefusal, HoldsFile, HoldsSome}
-use Rattle.concolic_cli.specs.Listings.{IsEasy, HoldsPaths, room}
+use Rattle.search_dfs.specs.Missed.{IsEasy, HoldsPaths, room}
 use Rattle.concolic_cli.specs.Made.{made_source, made_entry}
 use Rattle.concolic_cli.specs.Refusals.{bad_word_text, Says}
 use Rattle.concolic_cli.specs.Loaded.{source_limit, tests_limit, ReadAs, ReadTests}

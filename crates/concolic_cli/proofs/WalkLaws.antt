@@ -10,8 +10,7 @@ use Rattle.rand_pcg.specs.Lcg.{Lcg}
 use Rattle.tac_lower.specs.declared.tac.Tac.{Tac}
 use Rattle.search_base.specs.Setting.{Setting}
 use Rattle.search_walks.specs.Output.{Begins}
-use Rattle.search_walks.specs.Walks.{Candidate, Branches, branch_full, branch_none_left, branch_cut_off, branch_never_one, branch_spent_one, branch_run_one, Passes, pass_full, last_pass, pass_cut_off, next_pass, pass_no_draw, pass_own_one, pass_never_one, pass_spent_one, pass_kept_one, pass_left_one, Directed, directed_full, directed_none_near, directed_cut_off, directed_never_one, directed_spent_one, directed_new_one, directed_old_one, prediction, IsItemOf, kept, left}
-use Rattle.concolic_cli.specs.WalkReports.{WalkOf}
+use Rattle.search_walks.specs.Walks.{Candidate, Branches, branch_full, branch_none_left, branch_cut_off, branch_never_one, branch_spent_one, branch_run_one, Passes, pass_full, last_pass, pass_cut_off, next_pass, pass_no_draw, pass_own_one, pass_never_one, pass_spent_one, pass_kept_one, pass_left_one, Directed, directed_full, directed_none_near, directed_cut_off, directed_never_one, directed_spent_one, directed_new_one, directed_old_one, prediction, IsItemOf, kept, left, WalkOf}
 
 module _ (s : Setting) (limit : ℕ) where
   branches_cut : (u : Input) (cs : List Candidate) (g : Lcg) (made : ℕ) (l : List Item) → Branches s limit false u cs g made l → Branches s limit true u cs g made l

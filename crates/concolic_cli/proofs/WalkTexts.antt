@@ -23,7 +23,8 @@ use Rattle.concolic_cli.specs.Compiling.{IsCompiled}
 use Rattle.concolic_cli.specs.Loaded.{ReadAs}
 use Rattle.concolic_cli.specs.Session.{Wrote, WroteFirst}
 use Rattle.concolic_cli.specs.Tasks.{walk}
-use Rattle.concolic_cli.specs.WalkReports.{WalkOf, IsWalk, walk_text, WroteWalk, WroteWalkSome}
+use Rattle.search_walks.specs.Walks.{WalkOf}
+use Rattle.concolic_cli.specs.WalkReports.{IsWalk, walk_text, WroteWalk, WroteWalkSome}
 use Rattle.concolic_cli.proofs.Causes.{program_of}
 use Rattle.concolic_cli.proofs.WalkLaws.{whole_cut, cut_at_once}
 

@@ -12,10 +12,9 @@ use Rattle.cc_outside.specs.Told.{appended, WritesPart}
 use Rattle.cc_outside.proofs.ToldLemmas.{appended-appended, WritesPart-none, WritesPart-first, WritesPart-after}
 use Rattle.replay.specs.ReportFiles.{AreSmall}
 use Rattle.search_dfs.specs.declared.search.Summary.{Summary}
-use Rattle.search_dfs.specs.Explored.{Sums, HasNumbers, Explored, ExploredSome}
-use Rattle.search_dfs.specs.Laws.{Laws}
+use Rattle.search_dfs.specs.Explored.{Sums, HasNumbers, Explored, ExploredSome, listing_of}
 use Rattle.search_base.specs.Readable.{IsNarrow}
-use Rattle.search_base.specs.Setting.{setting, layer_of}
+use Rattle.search_base.specs.Setting.{setting}
 use Rattle.concolic_cli.specs.declared.refusal.Refusal.{Refusal}
 use Rattle.concolic_cli.specs.declared.refusal.Refusal.TheVariants as refused
 use Rattle.concolic_cli.specs.Compiling.{WroteListing, WroteSome, IsLastLine}
@@ -111,23 +110,24 @@ module _ (c : Checked) (b : Limits) (after : Option Path) (old : Option (List �
       pub last_none : (new : Option (List ℕ)) → new ≡ searched → WroteSome c b after old new
       last_none new e = last_some new (last_line found) refl (WritesPart-none searched new (last_line found) e)
 
-      pub all_written : Laws (layer_of (setting c b budget)) → (new : Option (List ℕ)) (line : List ℕ) (status : ℕ) → line ≡ last_line found → new ≡ appended searched line → status ≡ verdict_of found →
+      pub all_written : (new : Option (List ℕ)) (line : List ℕ) (status : ℕ) → line ≡ last_line found → new ≡ appended searched line → status ≡ verdict_of found →
           WroteListing c b after old new runs budget status
-      all_written laws new line status e w v = record {
+      all_written new line status e w v = record {
         listing = found;
-        lists = is_listing c b budget runs after found laws x.sound x.licensed x.covered x.few (narrow_lines (record { bounds = b; items = x.items; terms = x.terms }) summary x.narrow x.sums x.numbers) refl;
+        lists = is_listing c b budget runs after middle searched summary x (narrow_lines found summary x.narrow x.sums x.numbers);
         written = w ∙ ap (λ u. appended searched u) e ∙ ap (λ m. appended m (last_line found)) before_last ∙ appended-appended old before (last_line found);
         verdict = v;
       }
 
 -- the last line alone
-pub is_last_line : (c : Checked) (b : Limits) (runs budget : ℕ) (old new : Option (List ℕ)) (summary : Summary) (line : List ℕ) → Laws (layer_of (setting c b budget)) →
+pub is_last_line : (c : Checked) (b : Limits) (runs budget : ℕ) (old new : Option (List ℕ)) (summary : Summary) (line : List ℕ) →
     Explored (setting c b budget) None runs old new summary → ((l : Listing) → Sums l summary → line ≡ last_line l) → IsLastLine c b runs budget line
-is_last_line c b runs budget old new summary line laws x h = record {
-  listing = record { bounds = b; items = x.items; terms = x.terms };
-  lists = is_listing c b budget runs None (record { bounds = b; items = x.items; terms = x.terms }) laws x.sound x.licensed x.covered x.few (narrow_lines (record { bounds = b; items = x.items; terms = x.terms }) summary x.narrow x.sums x.numbers) refl;
-  text_is = h (record { bounds = b; items = x.items; terms = x.terms }) x.sums;
-}
+is_last_line c b runs budget old new summary line x h =
+    let found = listing_of (setting c b budget) x.items x.terms in record {
+      listing = found;
+      lists = is_listing c b budget runs None old new summary x (narrow_lines found summary x.narrow x.sums x.numbers);
+      text_is = h found x.sums;
+    }
 
 -- a fact of what is given, from another
 pub if_ok_map : {A E : Type 0} → (r : Result A E) (P Q : A → Type 0) → ((a : A) → P a → Q a) → IfOk r P → IfOk r Q

@@ -16,7 +16,7 @@ use Rattle.cc_outside.specs.Held.{Held, file_of}
 use Rattle.cc_outside.specs.Told.{appended}
 use Rattle.replay.specs.Files.{IsTestsFile}
 use Rattle.concolic_cli.specs.declared.refusal.Refusal.{Refusal}
-use Rattle.concolic_cli.specs.Listings.{MissesNoMore}
+use Rattle.search_dfs.specs.Missed.{MissesNoMore}
 use Rattle.concolic_cli.specs.Made.{made_source, made_entry}
 use Rattle.concolic_cli.specs.Loaded.{source_limit, tests_limit, ReadAs, IsMissing, IsTooLong}
 use Rattle.concolic_cli.specs.Refusals.{Names, bad_word_text, file_text, Says, IsAnswered}

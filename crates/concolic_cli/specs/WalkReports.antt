@@ -1,11 +1,10 @@
 -- What is written of a walk.
-use Rattle.std.specs.Prelude.{ℕ, ◌-◌, ◌≡◌, Bool, true, false, List, [], ◌∷◌, ◌++◌, Option, if◌then◌else◌}
+use Rattle.std.specs.Prelude.{ℕ, ◌≡◌, Bool, true, false, List, ◌++◌, Option, if◌then◌else◌}
 use Rattle.cc_base.specs.declared.inputs.Test.{Test}
 use Rattle.cc_base.specs.Limits.{Limits}
 use Rattle.cc_base.specs.Paths.{In}
 use Rattle.cc_model.specs.declared.checked.Checked.{Checked}
 use Rattle.cc_model.specs.declared.commands.Strategy.{Strategy}
-use Rattle.cc_model.specs.declared.commands.Strategy.TheVariants.{Dfs, Random, UniformRandom, Cfg}
 use Rattle.cc_model.specs.CheckedProgram.{core_of}
 use Rattle.cc_model.specs.Core.{Program}
 use Rattle.cc_model.specs.Listing.{Item, WasRun}
@@ -15,20 +14,11 @@ use Rattle.cc_model.specs.Tested.{Term, Real, tested}
 use Rattle.cc_outside.specs.Told.{appended, WritesPart}
 use Rattle.tac_lower.specs.declared.tac.Tac.{Tac}
 use Rattle.search_walks.specs.declared.log.WalkSummary.{WalkSummary}
-use Rattle.search_walks.specs.Draws.{seeded}
 use Rattle.search_walks.specs.Output.{AreTerms, Sums, HasNumbers, Begins, ended_line}
 use Rattle.search_base.specs.Readable.{CanBeRead, IsNarrow}
-use Rattle.search_base.specs.Setting.{Setting, setting, base_of}
-use Rattle.search_walks.specs.Walks.{candidates, Branches, Passes, Directed}
+use Rattle.search_base.specs.Setting.{setting}
+use Rattle.search_walks.specs.Walks.{WalkOf}
 use Rattle.concolic_cli.specs.Compiling.{Compiles}
-
--- the items behind the first are those of a walk by the strategy, of at most so many runs: from the base run, which is made, with
--- the generator of the seed; where it may be cut off, it may end anywhere
-abbrev pub WalkOf : Strategy → Setting → Tac → (runs seed : ℕ) → (cuts : Bool) → List Item → Type 0
-WalkOf Dfs s t runs seed cuts l = ⊥
-WalkOf Random s t runs seed cuts l = Branches s runs cuts (base_of s) (candidates s (base_of s)) (seeded seed) 1 l
-WalkOf UniformRandom s t runs seed cuts l = Passes s runs cuts (base_of s) 0 (runs - 1) (seeded seed) 1 l
-WalkOf Cfg s t runs seed cuts l = Directed s runs cuts t (base_of s) (candidates s (base_of s)) (base_of s ∷ []) 1 l
 
 -- the items of a walk over a checked program and its code: the test of the base run, and those behind it; each test is real
 pub record IsWalk (c : Checked) (t : Tac) (strategy : Strategy) (b : Limits) (runs budget seed : ℕ) (cuts : Bool) (items : List Item) : Type 0 where

@@ -22,7 +22,7 @@ ghost use Rattle.input_map.specs.declared.faults.MapFault.{MapFault};
 ghost use Rattle.concolic_cli.specs.Concolic.{HasNoCommand, IsSource, IsSourceOf, HoldsFile, HoldsSome, Headline};
 ghost use Rattle.concolic_cli.specs.Concolic.{NothingMissedBut, PartStands, SourceIsRefused, MadeIsRefused};
 ghost use Rattle.concolic_cli.specs.Concolic.{FileIsRefused, IsRefusal, Answered};
-ghost use Rattle.concolic_cli.specs.Listings.{IsEasy, HoldsPaths, room};
+ghost use Rattle.search_dfs.specs.Missed.{IsEasy, HoldsPaths, room};
 ghost use Rattle.concolic_cli.specs.Made.{made_source, made_entry};
 ghost use Rattle.concolic_cli.specs.Named.{names_in};
 ghost use Rattle.concolic_cli.specs.Refusals.{bad_word_text, Says};

@@ -4,7 +4,6 @@
 mod after;
 mod answers;
 mod call;
-mod laws;
 mod lines;
 mod listing;
 mod making;
@@ -21,4 +20,4 @@ mod walking;
 
 pub use answers::Status;
 pub use call::concolic;
-pub use laws::listings_agree;
+pub use search_dfs::listings_agree;

@@ -5,8 +5,7 @@ ghost use Rattle.cc_model.specs.CheckedProgram.{core_of};
 ghost use Rattle.cc_model.specs.Graphs.{PointsToCells};
 ghost use Rattle.cc_model.specs.Runs.{params_of};
 ghost use Rattle.search_dfs.specs.Explored.{Explored, ExploredSome};
-ghost use Rattle.search_dfs.specs.Laws.{Laws};
-ghost use Rattle.search_base.specs.Setting.{setting, layer_of};
+ghost use Rattle.search_base.specs.Setting.{setting};
 ghost use Rattle.concolic_cli.specs.Compiling.{Compiles, WroteListing, WroteSome};
 ghost use Rattle.concolic_cli.specs.Session.{WriteCause};
 
@@ -18,7 +17,7 @@ use crate::refusal::Refusal;
 use crate::report::bounds_line;
 use cc_model::base::{Bounds, PathText};
 use cc_outside::Sink;
-use search_dfs::{SearchFault, Summary, explore};
+use search_dfs::{SearchFault, Summary, Task, explore};
 use std::alloc::Global;
 
 /// Searches the paths of a program, and writes the lines of the listing.
@@ -36,22 +35,21 @@ pub fn search<K: Sink>(
     requires runs { 1 ≤ runs }
     ensures explored { IfOk result (λ s. Explored (setting compiled.now.checked bounds.now budget)
         (option_map (λ r. r.now) after.entry) runs (K.written out.old) (K.written out.new) s) }
-    ensures laws { IfOk result (λ s. Laws (layer_of (setting compiled.now.checked bounds.now budget))) }
     ensures some { OnErr result (ExploredSome (setting compiled.now.checked bounds.now budget)
         (option_map (λ r. r.now) after.entry) (K.written out.old) (K.written out.new)) }
     ensures cause { IfErr result (λ e. WriteCause (K.faults out.old) (K.faults out.new) e) }
     ensures never_falls { K.faults out.old ≤ K.faults out.new }
 {
-    match explore(
+    let task = Task {
         alloc,
-        &compiled.checked,
-        &compiled.tac,
+        checked: &compiled.checked,
+        tac: &compiled.tac,
         bounds,
-        runs,
+        limit: runs,
         budget,
         after,
-        out,
-    ) {
+    };
+    match explore(&task, out) {
         Ok(summary) => Ok(summary),
         Err(SearchFault::Sink) => Err(Refusal::OutputFailed),
         Err(SearchFault::NoMemory) => Err(Refusal::NoMemory),

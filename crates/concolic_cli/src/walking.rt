@@ -1,30 +1,31 @@
 //! The report on a walk over the runs of a program.
 
 ghost use Rattle.std.specs.Prelude.{◌≡◌, ◌^◌, ◌<◌, ◌≤◌, IfOk, IfErr, OnErr, true, false, if◌then◌else◌};
-ghost use Rattle.cc_model.specs.declared.commands.Strategy.TheVariants.{Dfs, Random, UniformRandom, Cfg};
+ghost use Rattle.cc_model.specs.declared.commands.Strategy.TheVariants.{Dfs};
 ghost use Rattle.cc_model.specs.CheckedProgram.{core_of};
 ghost use Rattle.cc_model.specs.Graphs.{PointsToCells};
 ghost use Rattle.cc_model.specs.Runs.{params_of};
 ghost use Rattle.search_walks.specs.Output.{WalkedWhole, WalkedPart, ended_line};
+ghost use Rattle.search_walks.specs.Walks.{WalkOf};
 ghost use Rattle.search_base.specs.Setting.{setting};
 ghost use Rattle.concolic_cli.specs.Compiling.{Compiles};
 ghost use Rattle.concolic_cli.specs.Session.{WriteCause};
-ghost use Rattle.concolic_cli.specs.WalkReports.{WalkOf, WroteWalk, WroteWalkSome};
+ghost use Rattle.concolic_cli.specs.WalkReports.{WroteWalk, WroteWalkSome};
 
 use crate::answers::Status;
 use crate::lines::write_line;
 use crate::prepared::Compiled;
 use crate::refusal::Refusal;
 use crate::report::bounds_line;
+use cc_model::RunWords;
 use cc_model::base::NoMemory;
-use cc_model::{RunWords, Strategy};
 use cc_outside::Sink;
 use itoa::Buffer;
-use search_walks::{SearchFault, WalkSummary, cfg_directed, random_branch, uniform_random};
+use search_walks::{SearchFault, Task, WalkSummary, walk};
 use std::alloc::Global;
 
-/// Walks by random branches, and writes the lines of the walk.
-fn walk_branches<K: Sink>(
+/// Walks over the runs of a program by the strategy of the words, and writes the lines of the walk.
+fn walk_lines<K: Sink>(
     alloc: Global,
     compiled: &Compiled,
     words: &RunWords,
@@ -33,129 +34,28 @@ fn walk_branches<K: Sink>(
     requires compiles { Compiles compiled.now.checked compiled.now.tac }
     requires points { PointsToCells (core_of compiled.now.checked).layouts (params_of (core_of compiled.now.checked)) }
     requires runs { 1 ≤ (words.now).runs }
+    requires walk { (words.now).strategy ≡ Dfs → ⊥ }
     ensures walked { IfOk result (λ w. WalkedWhole (setting compiled.now.checked (words.now).bounds (words.now).budget)
-        (λ l. WalkOf Random (setting compiled.now.checked (words.now).bounds (words.now).budget) compiled.now.tac
-        (words.now).runs (words.now).seed false l) (K.written out.old) (K.written out.new) w) }
+        (λ l. WalkOf (words.now).strategy (setting compiled.now.checked (words.now).bounds (words.now).budget)
+        compiled.now.tac (words.now).runs (words.now).seed false l) (K.written out.old) (K.written out.new) w) }
     ensures part { OnErr result (WalkedPart (setting compiled.now.checked (words.now).bounds (words.now).budget)
-        (λ l. WalkOf Random (setting compiled.now.checked (words.now).bounds (words.now).budget) compiled.now.tac
-        (words.now).runs (words.now).seed true l) (K.written out.old) (K.written out.new)) }
+        (λ l. WalkOf (words.now).strategy (setting compiled.now.checked (words.now).bounds (words.now).budget)
+        compiled.now.tac (words.now).runs (words.now).seed true l) (K.written out.old) (K.written out.new)) }
     ensures cause { IfErr result (λ e. WriteCause (K.faults out.old) (K.faults out.new) e) }
     ensures never_falls { K.faults out.old ≤ K.faults out.new }
 {
-    match random_branch(
+    let task = Task {
         alloc,
-        &compiled.checked,
-        &compiled.tac,
-        &words.bounds,
-        words.runs,
-        words.budget,
-        words.seed,
-        out,
-    ) {
+        checked: &compiled.checked,
+        tac: &compiled.tac,
+        bounds: &words.bounds,
+        limit: words.runs,
+        budget: words.budget,
+    };
+    match walk(&task, words.strategy, words.seed, out) {
         Ok(summary) => Ok(summary),
         Err(SearchFault::Sink) => Err(Refusal::OutputFailed),
         Err(SearchFault::NoMemory) => Err(Refusal::NoMemory),
-    }
-}
-
-/// Walks by passes, and writes the lines of the walk.
-fn walk_passes<K: Sink>(
-    alloc: Global,
-    compiled: &Compiled,
-    words: &RunWords,
-    out: &mut K,
-) -> Result<WalkSummary, Refusal>
-    requires compiles { Compiles compiled.now.checked compiled.now.tac }
-    requires points { PointsToCells (core_of compiled.now.checked).layouts (params_of (core_of compiled.now.checked)) }
-    requires runs { 1 ≤ (words.now).runs }
-    ensures walked { IfOk result (λ w. WalkedWhole (setting compiled.now.checked (words.now).bounds (words.now).budget)
-        (λ l. WalkOf UniformRandom (setting compiled.now.checked (words.now).bounds
-        (words.now).budget) compiled.now.tac (words.now).runs (words.now).seed false l) (K.written out.old)
-        (K.written out.new) w) }
-    ensures part { OnErr result (WalkedPart (setting compiled.now.checked (words.now).bounds (words.now).budget)
-        (λ l. WalkOf UniformRandom (setting compiled.now.checked (words.now).bounds
-        (words.now).budget) compiled.now.tac (words.now).runs (words.now).seed true l) (K.written out.old)
-        (K.written out.new)) }
-    ensures cause { IfErr result (λ e. WriteCause (K.faults out.old) (K.faults out.new) e) }
-    ensures never_falls { K.faults out.old ≤ K.faults out.new }
-{
-    match uniform_random(
-        alloc,
-        &compiled.checked,
-        &compiled.tac,
-        &words.bounds,
-        words.runs,
-        words.budget,
-        words.seed,
-        out,
-    ) {
-        Ok(summary) => Ok(summary),
-        Err(SearchFault::Sink) => Err(Refusal::OutputFailed),
-        Err(SearchFault::NoMemory) => Err(Refusal::NoMemory),
-    }
-}
-
-/// Walks by the flow of the code, and writes the lines of the walk.
-fn walk_flow<K: Sink>(
-    alloc: Global,
-    compiled: &Compiled,
-    words: &RunWords,
-    out: &mut K,
-) -> Result<WalkSummary, Refusal>
-    requires compiles { Compiles compiled.now.checked compiled.now.tac }
-    requires points { PointsToCells (core_of compiled.now.checked).layouts (params_of (core_of compiled.now.checked)) }
-    requires runs { 1 ≤ (words.now).runs }
-    ensures walked { IfOk result (λ w. WalkedWhole (setting compiled.now.checked (words.now).bounds (words.now).budget)
-        (λ l. WalkOf Cfg (setting compiled.now.checked (words.now).bounds (words.now).budget) compiled.now.tac
-        (words.now).runs (words.now).seed false l) (K.written out.old) (K.written out.new) w) }
-    ensures part { OnErr result (WalkedPart (setting compiled.now.checked (words.now).bounds (words.now).budget)
-        (λ l. WalkOf Cfg (setting compiled.now.checked (words.now).bounds (words.now).budget) compiled.now.tac
-        (words.now).runs (words.now).seed true l) (K.written out.old) (K.written out.new)) }
-    ensures cause { IfErr result (λ e. WriteCause (K.faults out.old) (K.faults out.new) e) }
-    ensures never_falls { K.faults out.old ≤ K.faults out.new }
-{
-    match cfg_directed(
-        alloc,
-        &compiled.checked,
-        &compiled.tac,
-        &words.bounds,
-        words.runs,
-        words.budget,
-        words.seed,
-        out,
-    ) {
-        Ok(summary) => Ok(summary),
-        Err(SearchFault::Sink) => Err(Refusal::OutputFailed),
-        Err(SearchFault::NoMemory) => Err(Refusal::NoMemory),
-    }
-}
-
-/// Walks over the runs of a program by a strategy, and writes the lines of the walk.
-fn walk<K: Sink>(
-    alloc: Global,
-    compiled: &Compiled,
-    strategy: Strategy,
-    words: &RunWords,
-    out: &mut K,
-) -> Result<WalkSummary, Refusal>
-    requires compiles { Compiles compiled.now.checked compiled.now.tac }
-    requires points { PointsToCells (core_of compiled.now.checked).layouts (params_of (core_of compiled.now.checked)) }
-    requires runs { 1 ≤ (words.now).runs }
-    requires walk { strategy ≡ Dfs → ⊥ }
-    ensures walked { IfOk result (λ w. WalkedWhole (setting compiled.now.checked (words.now).bounds (words.now).budget)
-        (λ l. WalkOf strategy (setting compiled.now.checked (words.now).bounds (words.now).budget) compiled.now.tac
-        (words.now).runs (words.now).seed false l) (K.written out.old) (K.written out.new) w) }
-    ensures part { OnErr result (WalkedPart (setting compiled.now.checked (words.now).bounds (words.now).budget)
-        (λ l. WalkOf strategy (setting compiled.now.checked (words.now).bounds (words.now).budget) compiled.now.tac
-        (words.now).runs (words.now).seed true l) (K.written out.old) (K.written out.new)) }
-    ensures cause { IfErr result (λ e. WriteCause (K.faults out.old) (K.faults out.new) e) }
-    ensures never_falls { K.faults out.old ≤ K.faults out.new }
-{
-    match strategy {
-        Strategy::Dfs => unreachable!(),
-        Strategy::Random => walk_branches(alloc, compiled, words, out),
-        Strategy::UniformRandom => walk_passes(alloc, compiled, words, out),
-        Strategy::Cfg => walk_flow(alloc, compiled, words, out),
     }
 }
 
@@ -207,7 +107,7 @@ pub fn write_walk<K: Sink>(
         return Err(Refusal::NoMemory);
     };
     write_line(out, &first)?;
-    let summary = walk(alloc, compiled, words.strategy, words, out)?;
+    let summary = walk_lines(alloc, compiled, words, out)?;
     let Ok(last) = ended_line(alloc, &summary) else {
         return Err(Refusal::NoMemory);
     };

@@ -10,7 +10,9 @@ use Rattle.cc_outside.proofs.ToldLemmas.{appended-appended, WritesPart-first, Wr
 use Rattle.std.proofs.lemmas.List.{length-map}
 use Rattle.search_dfs.specs.declared.search.Summary.{Summary}
 use Rattle.search_dfs.specs.declared.tally.Tally.{Tally}
-use Rattle.search_dfs.specs.Explored.{Explored, ExploredSome, Counted, HasNumbers}
+use Rattle.search_dfs.specs.Explored.{Explored, ExploredSome, Counted, HasNumbers, listing_of}
+use Rattle.search_dfs.specs.Laws.{Laws}
+use Rattle.search_dfs.proofs.Missing.{misses_no_more, all_paths, nothing_left}
 use Rattle.search_base.specs.Terms.{seen_term, InOrder}
 use Rattle.search_base.specs.Readable.{IsNarrow}
 use Rattle.search_dfs.specs.Output.{out}
@@ -47,15 +49,19 @@ module _ (p : Setting) (after : Option Path) (limit : ℕ) (t0 t1 : Tally) (old 
   ordered : Whole → InOrder (t1.terms).items
   ordered l = ((l.wrote).tally).order (subst InOrder (sym none) tt)
 
-  pub explored : (s : Summary) → Whole → new ≡ appended mid (term_lines found) → Counted t1 s → HasNumbers s → ((e : Term) → In e found → IsNarrow e) → Explored p after limit old new s
-  explored s l w c n small =
-      let k = (l.wrote).tally in record {
+  pub explored : (s : Summary) → Laws (layer_of p) → Whole → new ≡ appended mid (term_lines found) → Counted t1 s → HasNumbers s → ((e : Term) → In e found → IsNarrow e) → Explored p after limit old new s
+  explored s laws l w c n small =
+      let k = (l.wrote).tally in
+      let licensed = l.licensed p.limits found (ordered l) (all_terms l) in record {
         items = l.items;
         terms = found;
         written = w ∙ ap (λ o. appended o (term_lines found)) (l.wrote).bytes ∙ appended-appended old (item_lines l.items) (term_lines found);
         sound = l.sound;
-        licensed = l.licensed p.limits found (ordered l) (all_terms l);
+        licensed = licensed;
         covered = l.covered;
+        misses_no_more = misses_no_more p laws limit after (listing_of p l.items found) l.sound licensed l.covered;
+        enumerates = all_paths p laws limit after (listing_of p l.items found) l.sound licensed l.covered;
+        complete = nothing_left p laws limit after (listing_of p l.items found) l.sound licensed l.covered;
         few = (l.wrote).few;
         narrow = small;
         numbers = n;

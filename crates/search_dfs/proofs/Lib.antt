@@ -14,6 +14,7 @@ pub mod Choices
 pub mod Baring
 pub mod RangeLaws
 pub mod RunsKept
+pub mod Missing
 pub mod Ending
 pub mod Lined
 pub mod Solved

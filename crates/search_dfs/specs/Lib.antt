@@ -7,4 +7,5 @@ pub mod Output
 pub mod Stack
 pub mod Turns
 pub mod Whole
+pub mod Missed
 pub mod Explored

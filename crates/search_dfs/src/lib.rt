@@ -10,5 +10,7 @@ mod search;
 mod tally;
 mod task;
 
+pub use laws::listings_agree;
 pub use search::{Summary, explore};
 pub use search_base::SearchFault;
+pub use task::Task;

@@ -1,17 +1,11 @@
 //! The depth-first search as a whole.
 
-ghost use Rattle.std.specs.Prelude.{◌≡◌, ◌^◌, ◌<◌, ◌≤◌, length, IfOk, OnOk, OnErr, IfErr, map, option_map};
-ghost use Rattle.cc_model.specs.CheckedProgram.{core_of};
-ghost use Rattle.cc_model.specs.Compiles.{Compiles};
-ghost use Rattle.cc_model.specs.Graphs.{PointsToCells};
-ghost use Rattle.cc_model.specs.Runs.{params_of};
-ghost use Rattle.tac_lower.specs.Finished.{first_in};
-ghost use Rattle.tac_lower.specs.Seen.{seen};
+ghost use Rattle.std.specs.Prelude.{◌≡◌, ◌^◌, ◌<◌, ◌≤◌, length, IfOk, OnOk, OnErr, IfErr};
 ghost use Rattle.search_dfs.specs.declared.open.Pending.{Pending as Kept};
 ghost use Rattle.search_dfs.specs.Explored.{Explored, ExploredSome, Counted, HasNumbers};
 ghost use Rattle.search_dfs.specs.Laws.{Laws};
 ghost use Rattle.search_dfs.specs.Output.{out as told};
-ghost use Rattle.search_base.specs.Setting.{setting, layer_of, within_of, base_of};
+ghost use Rattle.search_base.specs.Setting.{layer_of, within_of, base_of};
 ghost use Rattle.search_dfs.specs.Task.{setting_of, after_of, Known};
 ghost use Rattle.search_base.specs.Lines.{SinkCause};
 ghost use Rattle.search_dfs.specs.Turns.{Begins};
@@ -22,14 +16,12 @@ use crate::open::Open;
 use crate::runs::made_run;
 use crate::tally::Tally;
 use crate::task::Task;
-use cc_model::Checked;
-use cc_model::base::{Bounds, Input, Items, NoMemory, PathText};
+use cc_model::base::{Input, Items, NoMemory};
 use cc_outside::Sink;
 use input_map::base_input;
 use path_tree::Tree;
 use search_base::{SearchFault, narrow, write_terms};
 use std::alloc::Global;
-use tac_lower::Tac;
 
 /// The counts of a finished search: its tests, its runs, its terms, the prefixes whose solve passed the budget, the
 /// tests that the bound on steps ended, the runs that left their prediction, the inputs that were not run, and whether
@@ -115,44 +107,24 @@ fn summed(tally: &Tally) -> Summary
     })
 }
 
-/// Searches the paths of a checked program's tested function depth first, with at most `runs` runs and a budget for
-/// each group of a solve, above the path `after` where one is given. It writes the keyed lines, each as soon as no
-/// smaller key can come, and then the lines of the terms. Sink only where the sink's faults rose; what was written by
-/// then is a first part of such lines.
-pub fn explore<K: Sink>(
-    alloc: Global,
-    checked: &Checked,
-    tac: &Tac,
-    bounds: &Bounds,
-    runs: u32,
-    budget: u64,
-    after: Option<&PathText>,
-    out: &mut K,
-) -> Result<Summary, SearchFault>
-    requires compiles { Compiles (core_of checked.now) (map (seen checked.now) tac.now.code) (λ f. first_in tac.now f) }
-    requires points { PointsToCells (core_of checked.now).layouts (params_of (core_of checked.now)) }
-    requires runs { 1 ≤ runs }
-    ensures explored { IfOk result (λ s. Explored (setting checked.now bounds.now budget)
-        (option_map (λ r. r.now) after.entry) runs (K.written out.old) (K.written out.new) s) }
-    ensures laws { IfOk result (λ s. Laws (layer_of (setting checked.now bounds.now budget))) }
-    ensures some { OnErr result (ExploredSome (setting checked.now bounds.now budget)
-        (option_map (λ r. r.now) after.entry) (K.written out.old) (K.written out.new)) }
+/// Searches the paths of a checked program's tested function depth first, with at most `limit` runs, of which there is
+/// one at least, and a budget for each group of a solve, above the path `after` where one is given. It writes the keyed
+/// lines, each as soon as no smaller key can come, and then the lines of the terms. Sink only where the sink's faults
+/// rose; what was written by then is a first part of such lines.
+pub fn explore<K: Sink>(task: &Task<'_>, out: &mut K) -> Result<Summary, SearchFault>
+    requires known { Known task.now }
+    requires runs { 1 ≤ task.now.limit }
+    ensures explored { IfOk result (λ s. Explored (setting_of task.now) (after_of task.now) task.now.limit
+        (K.written out.old) (K.written out.new) s) }
+    ensures some { OnErr result (ExploredSome (setting_of task.now) (after_of task.now)
+        (K.written out.old) (K.written out.new)) }
     ensures sink { IfErr result (λ e. SinkCause (K.faults out.old) (K.faults out.new) e) }
     ensures never_falls { K.faults out.old ≤ K.faults out.new }
 {
-    let task = Task {
-        alloc,
-        checked,
-        tac,
-        bounds,
-        limit: runs,
-        budget,
-        after,
-    };
-    laws_hold(&task);
-    let mut tally = Tally::new(alloc);
-    search_all(&task, out, &mut tally)?;
-    write_terms(alloc, tally.terms.as_slice(), out)?;
+    laws_hold(task);
+    let mut tally = Tally::new(task.alloc);
+    search_all(task, out, &mut tally)?;
+    write_terms(task.alloc, tally.terms.as_slice(), out)?;
     narrow(tally.terms.as_slice());
     Ok(summed(&tally))
 }

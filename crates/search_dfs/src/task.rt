@@ -5,8 +5,8 @@ use cc_model::base::{Bounds, PathText};
 use std::alloc::Global;
 use tac_lower::Tac;
 
-/// What a search has from its start: how many runs may be made, the budget of a solve, and the path after which it goes
-/// on.
+/// What a search has from its start: a checked program with its code, the bounds, how many runs may be made, of which
+/// there is one at least, the budget of a solve, and the path after which it goes on.
 #[derive(Clone, Copy)]
 pub struct Task<'a> {
     pub alloc: Global,

@@ -1,16 +1,18 @@
 -- The walks, read along their items: which items come, whatever inputs the solver picks. The walks are this project's own.
-use Rattle.std.specs.Prelude.{ℕ, suc, ◌*◌, ◌<◌, ◌≤◌, ◌≡◌, ◌⊎◌, ◌↔◌, Bool, true, List, [], ◌∷◌, ◌++◌, length, map, take, drop, Some, slice_get}
+use Rattle.std.specs.Prelude.{ℕ, suc, ◌*◌, ◌-◌, ◌<◌, ◌≤◌, ◌≡◌, ◌⊎◌, ◌↔◌, ⊥, Bool, true, List, [], ◌∷◌, ◌++◌, length, map, take, drop, Some, slice_get}
 use Rattle.cc_base.specs.declared.inputs.Input.{Input}
 use Rattle.cc_base.specs.declared.inputs.Test.{Test}
 use Rattle.cc_base.specs.declared.outcomes.Outcome.{Outcome}
 use Rattle.cc_base.specs.Paths.{Path, In, Ascend, next, BeginsWith}
+use Rattle.cc_model.specs.declared.commands.Strategy.{Strategy}
+use Rattle.cc_model.specs.declared.commands.Strategy.TheVariants.{Dfs, Random, UniformRandom, Cfg}
 use Rattle.cc_model.specs.Listing.{Item, test_item, stray_item, spent_item}
 use Rattle.cc_model.specs.Tested.{never, spent, turned}
 use Rattle.rand_pcg.specs.Lcg.{Lcg}
 use Rattle.tac_lower.specs.declared.tac.Tac.{Tac}
 use Rattle.search_walks.specs.Distance.{entry, IsDistance}
-use Rattle.search_walks.specs.Draws.{draw, after_draw}
-use Rattle.search_base.specs.Setting.{Setting, layer_of, path_of}
+use Rattle.search_walks.specs.Draws.{draw, after_draw, seeded}
+use Rattle.search_base.specs.Setting.{Setting, layer_of, path_of, base_of}
 use Rattle.search_walks.specs.Deciding.{Decides, Takes, side_of}
 
 -- an alternative: the event's number, and the outcome
@@ -168,3 +170,11 @@ module _ (s : Setting) where
         directed_old_one : (u : Input) (cs : List Candidate) (ran : List Input) (made : ℕ) (l : List Item) (j : ℕ) (c : Candidate) (i : Input) (x : Item) →
             made < limit → IsNearest t u ran cs j c → Gives u (prediction u c) i → IsItemOf i (prediction u c) x → (IsNew i ran → ⊥) →
             Directed u (without j cs) (i ∷ ran) (suc made) l → Directed u cs ran made (x ∷ l)
+
+-- the items behind the first are those of a walk by the strategy, of at most so many runs: from the base run, which is made, with
+-- the generator of the seed; where it may be cut off, it may end anywhere
+abbrev pub WalkOf : Strategy → Setting → Tac → (runs seed : ℕ) → (cuts : Bool) → List Item → Type 0
+WalkOf Dfs s t runs seed cuts l = ⊥
+WalkOf Random s t runs seed cuts l = Branches s runs cuts (base_of s) (candidates s (base_of s)) (seeded seed) 1 l
+WalkOf UniformRandom s t runs seed cuts l = Passes s runs cuts (base_of s) 0 (runs - 1) (seeded seed) 1 l
+WalkOf Cfg s t runs seed cuts l = Directed s runs cuts t (base_of s) (candidates s (base_of s)) (base_of s ∷ []) 1 l

@@ -19,4 +19,5 @@ mod walks;
 pub use distance::distances;
 pub use log::WalkSummary;
 pub use search_base::SearchFault;
-pub use walks::{cfg_directed, random_branch, uniform_random};
+pub use task::Task;
+pub use walks::walk;

@@ -30,4 +30,4 @@ returns-in_err-write_line-2-clause-part g c =
 pub returns-clause-ok : goal.returns-clause-ok
 returns-clause-ok g c =
     let x = c.in_ok-summary.ensures.explored in
-    all_written c.args.compiled.now.checked c.args.bounds.now _ _ c.args.budget _ _ (c.deref.ensures.value ∙ c.in-Ok.ensures) c.in_ok-write_line.ensures.ok c.args.runs _ c.in_ok-summary.summary x c.in_ok-summary.ensures.laws _ _ _ (c.deref-2.ensures.value ∙ c.in-Ok-last_line.ensures _ x.sums) c.in_ok-write_line-2.ensures.ok (c.verdict.ensures _ x.sums)
+    all_written c.args.compiled.now.checked c.args.bounds.now _ _ c.args.budget _ _ (c.deref.ensures.value ∙ c.in-Ok.ensures) c.in_ok-write_line.ensures.ok c.args.runs _ c.in_ok-summary.summary x _ _ _ (c.deref-2.ensures.value ∙ c.in-Ok-last_line.ensures _ x.sums) c.in_ok-write_line-2.ensures.ok (c.verdict.ensures _ x.sums)
