@@ -9,7 +9,7 @@ use Rattle.cc_model.specs.declared.commands.Command.{Command}
 use Rattle.cc_model.specs.declared.commands.Command.TheVariants.{Make, Replay}
 use Rattle.cc_model.specs.declared.commands.Strategy.{Strategy}
 use Rattle.cc_model.specs.declared.commands.Strategy.TheVariants.{Dfs, Random, UniformRandom, Cfg}
-use Rattle.command_words.specs.declared.words.Takes.TheVariants.{PathText}
+use Rattle.command_words.specs.declared.values.Takes.TheVariants.{PathText}
 use Rattle.command_words.specs.Words.{Row, Accepted, run, trace, replay, make, Begins, BadWord, run_words, trace_words, strategy_word, IsNumber, IsGiven, IsSeed, IsFine, behind, place_behind, AreNamed, AreBounds, run_options, trace_options, solver_option, depth_option}
 use Rattle.command_words.specs.Options.{Fits, FitsWith, IsBadAt}
 use Rattle.command_words.proofs.NamedWords.{Words, length_take}

@@ -2,7 +2,7 @@
 use Rattle.std.proofs.Common.{◌≡◌, ◌∙◌, sym, ap, refl, subst, ℕ, zero, suc, ◌+◌, ◌*◌, ◌≤◌, inl, inr, Bool, true, false, List, [], ◌∷◌, ◌++◌, take, length, Option, Some, None, IsSome, arith, if◌then◌else◌}
 use Rattle.std.specs.Prelude.{bytes_eq, IfNone}
 use Rattle.std.proofs.lemmas.Slice.Eq.{bytes_eq-Decides}
-use Rattle.command_words.specs.declared.words.Takes.{Takes}
+use Rattle.command_words.specs.declared.values.Takes.{Takes}
 use Rattle.command_words.specs.Words.{Row, takes_of, AreNamed, behind, IsFine}
 
 abbrev pub Words : Type 0

@@ -4,9 +4,9 @@ use Rattle.std.specs.Prelude.{bytes_eq}
 use Rattle.std.specs.Fmt.{decimal, signed_decimal}
 use Rattle.std.proofs.lemmas.List.{take_at}
 use lib.Signed.{mag}
-use Rattle.command_words.specs.declared.words.Range.{Range}
-use Rattle.command_words.specs.declared.words.Takes.{Takes}
-use Rattle.command_words.specs.declared.words.Takes.TheVariants.{Number, Wide, PathText}
+use Rattle.command_words.specs.declared.values.Range.{Range}
+use Rattle.command_words.specs.declared.values.Takes.{Takes}
+use Rattle.command_words.specs.declared.values.Takes.TheVariants.{Number, Wide, PathText}
 use Rattle.command_words.specs.Words.{Row, NumberRow, takes_of, AreNamed, behind, IsFine, IsGiven, IsValue, min_option, max_option}
 use Rattle.command_words.specs.Options.{IsTable, Fits, FitsWith, IsBadAt}
 use Rattle.command_words.proofs.Numerals.{text_once, mag_between}

@@ -3,7 +3,7 @@ use Rattle.std.proofs.Common.{◌≡◌, ◌∙◌, sym, ap, refl, subst, ℕ, s
 use Rattle.std.specs.Prelude.{String, string_bytes, IfSome, IfNone}
 use Rattle.std.specs.declared.alloc.Global.{Global}
 use Rattle.std.proofs.lemmas.List.{take_at}
-use Rattle.command_words.specs.declared.words.Takes.{Takes}
+use Rattle.command_words.specs.declared.values.Takes.{Takes}
 use Rattle.command_words.specs.Words.{Row, texts, takes_of, behind, IsGiven, IsValue, min_option, max_option}
 use Rattle.command_words.specs.Options.{IsTable, Fits, FitsWith, IsBadAt}
 use Rattle.command_words.proofs.NamedWords.{Words, append_nil}

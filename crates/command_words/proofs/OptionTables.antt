@@ -6,8 +6,8 @@ use lib.Signed.{mag}
 use Rattle.cc_base.specs.Limits.{Limits}
 use Rattle.cc_model.specs.declared.commands.Strategy.{Strategy}
 use Rattle.cc_model.specs.declared.commands.Strategy.TheVariants.{Dfs, Random, UniformRandom, Cfg}
-use Rattle.command_words.specs.declared.words.Range.{Range}
-use Rattle.command_words.specs.declared.words.Takes.TheVariants.{Number, Wide, PathText}
+use Rattle.command_words.specs.declared.values.Range.{Range}
+use Rattle.command_words.specs.declared.values.Takes.TheVariants.{Number, Wide, PathText}
 use Rattle.command_words.specs.Words.{Row, NumberRow, row, seed_option, after_option, takes_of, AreNamed, behind, IsFine, IsGiven, IsSeed, AreBounds, min_option, max_option, objects_option, steps_option, depth_option, solver_option, search_options, walk_options, run_options, trace_options}
 use Rattle.command_words.specs.Options.{IsTable, Fits, FitsWith, IsBadAt}
 use Rattle.command_words.proofs.NamedWords.{Words, length_take, found, named_count, at_most_once, absent}

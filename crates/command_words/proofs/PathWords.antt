@@ -5,7 +5,7 @@ use Rattle.cc_base.specs.declared.outcomes.Outcome.{Outcome}
 use Rattle.cc_base.specs.declared.outcomes.Outcome.TheVariants.{Zero, High, Low, Plain, False, True, Object}
 use Rattle.cc_base.specs.Outcomes.{byte_of, HasByte}
 use Rattle.cc_base.specs.Paths.{Path}
-use Rattle.command_words.specs.declared.words.Takes.TheVariants.{PathText}
+use Rattle.command_words.specs.declared.values.Takes.TheVariants.{PathText}
 use Rattle.command_words.specs.Words.{IsPath, IsFine, behind, place_behind}
 use Rattle.command_words.proofs.NamedWords.{Words}
 

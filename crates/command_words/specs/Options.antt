@@ -1,9 +1,9 @@
 -- What is read of the options behind a form's fixed words.
 use Rattle.std.specs.Prelude.{◌≡◌, ℕ, ◌+◌, ◌<◌, ◌⊎◌, ℤ, ◌≤ℤ◌, List, ◌++◌, length, take, map, Some, codes}
 use denote.Ref.{Bor}
-use Rattle.command_words.specs.declared.words.Range.{Range}
-use Rattle.command_words.specs.declared.words.Takes.{Takes}
-use Rattle.command_words.specs.declared.words.Takes.TheVariants.{Number}
+use Rattle.command_words.specs.declared.values.Range.{Range}
+use Rattle.command_words.specs.declared.values.Takes.{Takes}
+use Rattle.command_words.specs.declared.values.Takes.TheVariants.{Number}
 use Rattle.command_words.specs.Words.{Row, takes_of, AreNamed, behind, IsFine, IsGiven, min_option, max_option, objects_option, steps_option}
 
 abbrev pub seen_row : Bor (List ℕ) × Takes → Row

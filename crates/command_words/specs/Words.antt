@@ -9,9 +9,9 @@ use Rattle.cc_model.specs.declared.commands.Command.{Command}
 use Rattle.cc_model.specs.declared.commands.Command.TheVariants.{Run, Trace, Replay, Make}
 use Rattle.cc_model.specs.declared.commands.Strategy.{Strategy}
 use Rattle.cc_model.specs.declared.commands.Strategy.TheVariants.{Dfs, Random, UniformRandom, Cfg}
-use Rattle.command_words.specs.declared.words.Range.{Range}
-use Rattle.command_words.specs.declared.words.Takes.{Takes}
-use Rattle.command_words.specs.declared.words.Takes.TheVariants.{Number, Wide, PathText}
+use Rattle.command_words.specs.declared.values.Range.{Range}
+use Rattle.command_words.specs.declared.values.Takes.{Takes}
+use Rattle.command_words.specs.declared.values.Takes.TheVariants.{Number, Wide, PathText}
 
 -- the bytes of each word
 abbrev pub texts : List (String Global) → List (List ℕ)

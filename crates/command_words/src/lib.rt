@@ -1,6 +1,8 @@
 //! The words of the command line, and the command that they give.
 #![tactic(auto)]
 
-pub mod words;
+mod options;
+mod values;
+mod words;
 
 pub use words::{one_command, read_words};

@@ -1,6 +1,6 @@
 //! The code of small programs, and its edges.
 
-use crate::turns::compile;
+use crate::turning::compile;
 use cc_model::SiteId;
 use cc_model::base::{FaultKind, Items, NoMemory};
 use std::alloc::Global;

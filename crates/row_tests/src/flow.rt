@@ -1,6 +1,6 @@
 //! The flow distances by which a walk goes.
 
-use crate::turns::compile;
+use crate::turning::compile;
 use search_walks::distances;
 use std::process::Abort;
 use std::test::Fail;

@@ -30,6 +30,8 @@ mod tests_files;
 #[cfg(test)]
 mod tokens;
 #[cfg(test)]
+mod turning;
+#[cfg(test)]
 mod turns;
 #[cfg(test)]
 mod words;

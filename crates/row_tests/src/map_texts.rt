@@ -1,6 +1,6 @@
 //! Maps and tests, on a program with a list cell and a function of two pointers to it.
 
-use crate::turns::compile;
+use crate::turning::compile;
 use cc_model::Checked;
 use cc_model::base::{Bounds, End, FaultKind, Input, Items, Outcome, Test};
 use input_map::{MapFault, TestFault, base_input, read_map, read_test, write_map, write_test};

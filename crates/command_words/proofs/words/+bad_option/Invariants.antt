@@ -1,5 +1,0 @@
-use Rattle.std.proofs.Common.{length, ◌-◌}
-use Rattle.command_words.proofs.words.+bad_option.Given as goal
-
-abbrev pub decreases-bad_option : goal.decreases-bad_option
-decreases-bad_option l = length l.words.now - l.at
