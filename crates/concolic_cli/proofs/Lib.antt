@@ -13,5 +13,9 @@ mod WalkLaws
 mod WalkTexts
 mod Commands
 mod Calls
+mod Unrefused
 mod Promises
+mod Alone
+mod Coming
+mod TestsPromises
 pub mod ReportFiles

@@ -138,6 +138,18 @@ pub record HoldsFile (held : Option Held) (name file : List ℕ) : Type 0 where
 abbrev pub HoldsSome : Program → List ℕ → Type 0
 HoldsSome p file = (b : Limits) × (tests : List Test) × (lines : List ℕ) × IsTestsFile p file b tests lines
 
+-- the source was read and is refused: it is no program, so the tests file isn't read
+pub record SourceComesFirst (task : Task) (held : Option Held) : Type 0 where
+  pub bytes : List ℕ
+  pub text : List ℕ
+  pub read : ReadAs held task.file bytes
+  pub refused : Refuses bytes task.entry text
+  pub none : (p : Program) → IsProgram bytes task.entry p → ⊥
+
+-- the tests file can't be read: 4, or want of memory; or 3, where the source, which comes first, is refused
+abbrev pub TestsUnread : Task → Option Held → (status : ℕ) → Type 0
+TestsUnread task held status = (status ≡ 4) ⊎ ((status ≡ 7) ⊎ ((status ≡ 3) × SourceComesFirst task held))
+
 -- a refusal: 3, or want of memory, or the files failed
 abbrev pub IsRefusal : (files_old files_new : ℕ) → (status : ℕ) → Type 0
 IsRefusal files_old files_new status = (status ≡ 3) ⊎ ((status ≡ 7) ⊎ ((status ≡ 4) × Rose files_old files_new))

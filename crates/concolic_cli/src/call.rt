@@ -21,7 +21,7 @@ ghost use Rattle.input_map.specs.CellFaults.{Refused};
 ghost use Rattle.input_map.specs.declared.faults.MapFault.{MapFault};
 ghost use Rattle.concolic_cli.specs.Concolic.{HasNoCommand, IsSource, IsSourceOf, HoldsFile, HoldsSome, Headline};
 ghost use Rattle.concolic_cli.specs.Concolic.{NothingMissedBut, PartStands, SourceIsRefused, MadeIsRefused};
-ghost use Rattle.concolic_cli.specs.Concolic.{FileIsRefused, IsRefusal, Answered};
+ghost use Rattle.concolic_cli.specs.Concolic.{FileIsRefused, IsRefusal, TestsUnread, Answered};
 ghost use Rattle.search_dfs.specs.Missed.{IsEasy, HoldsPaths, room};
 ghost use Rattle.concolic_cli.specs.Made.{made_source, made_entry};
 ghost use Rattle.concolic_cli.specs.Named.{names_in};
@@ -499,6 +499,16 @@ pub fn concolic<F: Files, K: Sink, E: Sink>(
         → F.held files.old ≡ Some h
         → file_of task.file h ≡ Some bytes → 1048576 < length bytes → (result.0 ≡ 4) ⊎ (result.0 ≡ 7) }
 
+    // So it is with the tests file of `replay`; but the source comes first, with 3 where it is refused.
+    ensures missing_tests { (replay : ReplayWords) (h : Held) → Accepted (texts words.now) (Replay replay)
+        → F.held files.old ≡ Some h → file_of (word_of (texts words.now) replay.tests) h ≡ None
+        → TestsUnread (replay_task (texts words.now) replay) (F.held files.old) result.0 }
+    ensures too_long_tests { (replay : ReplayWords) (h : Held) (file : List ℕ)
+        → Accepted (texts words.now) (Replay replay)
+        → F.held files.old ≡ Some h → file_of (word_of (texts words.now) replay.tests) h ≡ Some file
+        → 16777216 < length file
+        → TestsUnread (replay_task (texts words.now) replay) (F.held files.old) result.0 }
+
     // 5: only where the output failed in this call. 7: want of memory. A first part of what is written stands.
     ensures output_failed { result.0 ≡ 5 → Rose (K.faults out.old) (K.faults out.new)
         × Says (E.written err.old) (E.written err.new) (E.faults err.old) (E.faults err.new)
@@ -510,8 +520,10 @@ pub fn concolic<F: Files, K: Sink, E: Sink>(
         → PartStands (texts words.now) (F.held files.old) (K.written out.old) (K.written out.new) }
     ensures silent { 2 ≤ result.0 → result.0 ≤ 4 → K.written out.new ≡ K.written out.old }
 
-    // No other status comes, 8 for `replay` alone, and 10 and 11 for `run` with `-dfs` alone.
+    // No other status comes, 1 for `run` and `trace` alone, 8 for `replay`, and 10 and 11 for `run` with `-dfs`.
     ensures statuses { In result.0 (0 ∷ 1 ∷ 2 ∷ 3 ∷ 4 ∷ 5 ∷ 7 ∷ 8 ∷ 10 ∷ 11 ∷ []) }
+    ensures fault_alone { result.0 ≡ 1 → ((run : RunWords) × Accepted (texts words.now) (Run run))
+        ⊎ ((trace : TraceWords) × Accepted (texts words.now) (Trace trace)) }
     ensures replay_alone { result.0 ≡ 8 → (replay : ReplayWords) × Accepted (texts words.now) (Replay replay) }
     ensures run_alone { 10 ≤ result.0 → (run : RunWords) × Accepted (texts words.now) (Run run) × (run.strategy ≡ Dfs) }
 

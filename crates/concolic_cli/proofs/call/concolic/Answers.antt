@@ -2,6 +2,9 @@
 use Rattle.concolic_cli.proofs.Calls.{ending}
 use Rattle.concolic_cli.proofs.Commands.{has_after}
 use Rattle.concolic_cli.proofs.Promises as promise
+use Rattle.concolic_cli.proofs.Alone as alone
+use Rattle.concolic_cli.proofs.Coming as coming
+use Rattle.concolic_cli.proofs.TestsPromises as tests
 use Rattle.concolic_cli.proofs.ReportFiles.{file_of_run, file_of_walk, file_of_trace}
 use Rattle.concolic_cli.proofs.call.concolic.Goals as goal
 
@@ -42,25 +45,25 @@ pub returns-clause-silent : goal.returns-clause-silent
 returns-clause-silent g c = promise.silent _ _ c.one_command.ensures (ending _ _ c.answer.ensures.answered)
 
 pub returns-clause-statuses : goal.returns-clause-statuses
-returns-clause-statuses g c = promise.statuses _ _ c.one_command.ensures (ending _ _ c.answer.ensures.answered)
+returns-clause-statuses g c = alone.statuses _ _ c.one_command.ensures (ending _ _ c.answer.ensures.answered)
 
 pub returns-clause-run_alone : goal.returns-clause-run_alone
-returns-clause-run_alone g c = promise.run_alone _ _ c.one_command.ensures (ending _ _ c.answer.ensures.answered)
+returns-clause-run_alone g c = alone.run_alone _ _ c.one_command.ensures (ending _ _ c.answer.ensures.answered)
 
 pub returns-clause-complete : goal.returns-clause-complete
-returns-clause-complete g c = λ run after bytes paths a v n i s few. promise.complete _ _ c.one_command.ensures (ending _ _ c.answer.ensures.answered) c.one_program.ensures run after bytes paths a v n i s few
+returns-clause-complete g c = λ run after bytes paths a v n i s few. coming.complete _ _ c.one_command.ensures (ending _ _ c.answer.ensures.answered) c.one_program.ensures run after bytes paths a v n i s few
 
 pub returns-clause-complete_trace : goal.returns-clause-complete_trace
-returns-clause-complete_trace g c = λ trace bytes h a i m s. promise.complete_trace _ _ c.one_command.ensures (ending _ _ c.answer.ensures.answered) c.one_program.ensures trace bytes h a i m s
+returns-clause-complete_trace g c = λ trace bytes h a i m s. coming.complete_trace _ _ c.one_command.ensures (ending _ _ c.answer.ensures.answered) c.one_program.ensures trace bytes h a i m s
 
 pub returns-clause-refused_source : goal.returns-clause-refused_source
-returns-clause-refused_source g c = λ task bytes text a i. promise.refused_source _ _ c.one_command.ensures (ending _ _ c.answer.ensures.answered) c.one_program.ensures task bytes text a i
+returns-clause-refused_source g c = λ task bytes text a i. coming.refused_source _ _ c.one_command.ensures (ending _ _ c.answer.ensures.answered) c.one_program.ensures task bytes text a i
 
 pub returns-clause-refused_map : goal.returns-clause-refused_map
-returns-clause-refused_map g c = λ trace bytes f a i s. promise.refused_map _ _ c.one_command.ensures (ending _ _ c.answer.ensures.answered) trace bytes f a i s
+returns-clause-refused_map g c = λ trace bytes f a i s. coming.refused_map _ _ c.one_command.ensures (ending _ _ c.answer.ensures.answered) trace bytes f a i s
 
 pub returns-clause-refused_make : goal.returns-clause-refused_make
-returns-clause-refused_make g c = λ n text a r. promise.refused_make _ _ c.one_command.ensures (ending _ _ c.answer.ensures.answered) n a c.one_program.ensures text r
+returns-clause-refused_make g c = λ n text a r. coming.refused_make _ _ c.one_command.ensures (ending _ _ c.answer.ensures.answered) n a c.one_program.ensures text r
 
 pub returns-clause-missed : goal.returns-clause-missed
 returns-clause-missed g c = λ words. promise.missed _ _ c.one_command.ensures (ending _ _ c.answer.ensures.answered) words
@@ -69,28 +72,28 @@ pub returns-clause-made : goal.returns-clause-made
 returns-clause-made g c = λ n. promise.made _ _ c.one_command.ensures (ending _ _ c.answer.ensures.answered) n
 
 pub returns-clause-answers_make : goal.returns-clause-answers_make
-returns-clause-answers_make g c = λ n a. promise.answers_make _ _ c.one_command.ensures (ending _ _ c.answer.ensures.answered) n a
+returns-clause-answers_make g c = λ n a. coming.answers_make _ _ c.one_command.ensures (ending _ _ c.answer.ensures.answered) n a
 
 pub returns-clause-answers_run : goal.returns-clause-answers_run
-returns-clause-answers_run g c = λ run after bytes p a v n i s. promise.answers_run _ _ c.one_command.ensures (ending _ _ c.answer.ensures.answered) c.one_program.ensures run after bytes p a v n i s
+returns-clause-answers_run g c = λ run after bytes p a v n i s. coming.answers_run _ _ c.one_command.ensures (ending _ _ c.answer.ensures.answered) c.one_program.ensures run after bytes p a v n i s
 
 pub returns-clause-missing_file : goal.returns-clause-missing_file
-returns-clause-missing_file g c = λ task h a told. promise.missing_file _ _ c.one_command.ensures (ending _ _ c.answer.ensures.answered) task a h told
+returns-clause-missing_file g c = λ task h a told. coming.missing_file _ _ c.one_command.ensures (ending _ _ c.answer.ensures.answered) task a h told
 
 pub returns-clause-too_long_file : goal.returns-clause-too_long_file
-returns-clause-too_long_file g c = λ task h b a told. promise.too_long_file _ _ c.one_command.ensures (ending _ _ c.answer.ensures.answered) task a h told b
+returns-clause-too_long_file g c = λ task h b a told. coming.too_long_file _ _ c.one_command.ensures (ending _ _ c.answer.ensures.answered) task a h told b
 
 pub returns-clause-replayed : goal.returns-clause-replayed
 returns-clause-replayed g c = λ words. promise.replayed _ _ c.one_command.ensures (ending _ _ c.answer.ensures.answered) words
 
 pub returns-clause-replay_alone : goal.returns-clause-replay_alone
-returns-clause-replay_alone g c = promise.replay_alone _ _ c.one_command.ensures (ending _ _ c.answer.ensures.answered)
+returns-clause-replay_alone g c = alone.replay_alone _ _ c.one_command.ensures (ending _ _ c.answer.ensures.answered)
 
 pub returns-clause-answers_replay : goal.returns-clause-answers_replay
-returns-clause-answers_replay g c = λ r bytes file a i h. promise.answers_replay _ _ c.one_command.ensures (ending _ _ c.answer.ensures.answered) c.one_program.ensures r bytes file a i h
+returns-clause-answers_replay g c = λ r bytes file a i h. tests.answers_replay _ _ c.one_command.ensures (ending _ _ c.answer.ensures.answered) c.one_program.ensures r bytes file a i h
 
 pub returns-clause-refused_tests : goal.returns-clause-refused_tests
-returns-clause-refused_tests g c = λ r bytes file line a i h. promise.refused_tests _ _ c.one_command.ensures (ending _ _ c.answer.ensures.answered) c.one_program.ensures r bytes file a i h line
+returns-clause-refused_tests g c = λ r bytes file line a i h. tests.refused_tests _ _ c.one_command.ensures (ending _ _ c.answer.ensures.answered) c.one_program.ensures r bytes file a i h line
 
 pub returns-clause-run_file : goal.returns-clause-run_file
 returns-clause-run_file g c = λ run a v i. let f = has_after _ run a in file_of_run _ _ _ _ run f.0 _ a (promise.listed _ _ c.one_command.ensures (ending _ _ c.answer.ensures.answered) run f.0 a v f.1 i)
@@ -105,4 +108,13 @@ pub returns-clause-walked : goal.returns-clause-walked
 returns-clause-walked g c = λ words. promise.walked _ _ c.one_command.ensures (ending _ _ c.answer.ensures.answered) words
 
 pub returns-clause-answers_walk : goal.returns-clause-answers_walk
-returns-clause-answers_walk g c = λ run bytes p a v i s. promise.answers_walk _ _ c.one_command.ensures (ending _ _ c.answer.ensures.answered) c.one_program.ensures run bytes p a v i s
+returns-clause-answers_walk g c = λ run bytes p a v i s. coming.answers_walk _ _ c.one_command.ensures (ending _ _ c.answer.ensures.answered) c.one_program.ensures run bytes p a v i s
+
+pub returns-clause-fault_alone : goal.returns-clause-fault_alone
+returns-clause-fault_alone g c = alone.fault_alone _ _ c.one_command.ensures (ending _ _ c.answer.ensures.answered)
+
+pub returns-clause-missing_tests : goal.returns-clause-missing_tests
+returns-clause-missing_tests g c = λ r h a. tests.missing_tests _ _ c.one_command.ensures (ending _ _ c.answer.ensures.answered) c.one_program.ensures r a h
+
+pub returns-clause-too_long_tests : goal.returns-clause-too_long_tests
+returns-clause-too_long_tests g c = λ r h file a. tests.too_long_tests _ _ c.one_command.ensures (ending _ _ c.answer.ensures.answered) c.one_program.ensures r a h file
