@@ -1,7 +1,6 @@
 -- The types of a checked program are those that a numbering gives.
 use Rattle.std.proofs.Common.{◌≡◌, sym, subst, ℕ, List, [], ◌∷◌, map, Result, Ok, Err, IfOk}
 use Rattle.cc_base.specs.declared.cells.TyId.{TyId}
-use Rattle.cc_base.specs.declared.cells.CellTy.{CellTy}
 use Rattle.cc_model.specs.declared.checked.Ty.{Ty}
 use Rattle.cc_model.specs.declared.checked.Ty.TheVariants as ty
 use Rattle.cc_model.specs.declared.checked.Sig.{Sig}
