@@ -14,13 +14,13 @@ use Rattle.cc_model.specs.Sites.{sites_in}
 use Rattle.cc_model.specs.Faults.{WellTyped, IsFirst, notes_in, faults_in, faults_among, sites_fault, has_entry}
 use Rattle.cc_model.specs.CheckedProgram.{IsChecked, site_of, meant, type_at, expression_tokens, expression_types, declared_types, globals_in, slots_in}
 use Rattle.c_types.specs.declared.least.Found.{Found}
-use Rattle.c_types.specs.declared.numbering.Numbering.{Numbering}
+use Rattle.c_numbering.specs.declared.numbering.Numbering.{Numbering}
 use Rattle.c_types.specs.FirstFault.{fault, faults_of, IsLeast}
-use Rattle.c_types.specs.Numbers.{IsNumbering}
-use Rattle.c_types.specs.CheckedTypes.{AreCheckedTypes}
+use Rattle.c_numbering.specs.Numbers.{IsNumbering}
+use Rattle.c_numbering.specs.CheckedTypes.{AreCheckedTypes}
 use Rattle.c_types.specs.Resolving.{AreRead, IsTested}
 use Rattle.c_types.proofs.FirstFaults.{first_in, none_found, first_found}
-use Rattle.c_types.proofs.NumberingLaws.{numbering_checked}
+use Rattle.c_numbering.proofs.NumberingLaws.{numbering_checked}
 use Rattle.c_types.proofs.Distinct.{with_number}
 
 -- ---- types by their numbers
@@ -47,6 +47,11 @@ numbered_types r text items es ds file gs ls notes e d f g l n w h =
     let five = subst (λ z. IfOk r (λ k. IsNumbering (expression_types text items) (declared_types (notes_in text items)) z (globals_in text items) (map (λ (q : Function). slots_in text (file_of text items) nothing_before q.name items) (file_of text items).functions) k)) f four in
     if_ok (λ k. IsNumbering (expression_types text items) (declared_types (notes_in text items)) (file_of text items) (globals_in text items) (map (λ (q : Function). slots_in text (file_of text items) nothing_before q.name items) (file_of text items).functions) k)
     (λ k. AreCheckedTypes text items (expression_types text items) k) r (λ k i. numbering_checked text items (expression_types text items) k w i) five
+
+-- the same lists in other words
+pub numbered_as : {E : Type 0} (r : Result Numbering E) (es ds : List CType) (file : File) (gs gs' : List Variable) (ls ls' : List (List CType)) → gs ≡ gs' → ls ≡ ls'
+    → IfOk r (λ n. IsNumbering es ds file gs ls n) → IfOk r (λ n. IsNumbering es ds file gs' ls' n)
+numbered_as r es ds file gs gs' ls ls' g l h = subst (λ z. IfOk r (λ n. IsNumbering es ds file gs' z n)) l (subst (λ z. IfOk r (λ n. IsNumbering es ds file z ls n)) g h)
 
 -- ---- the checked program
 

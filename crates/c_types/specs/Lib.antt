@@ -1,16 +1,4 @@
-pub mod Apart
-pub mod Layouts
-pub mod Numbers
-pub mod Sigs
-pub mod Table
-pub mod Telling
-pub mod Views
 pub mod FirstFault
-pub mod BodyLocals
-pub mod Places
-pub mod FileNames
-pub mod Noted
 pub mod Ranks
 pub mod Refused
 pub mod Resolving
-pub mod CheckedTypes

@@ -2,26 +2,22 @@
 
 ghost use Rattle.std.specs.Prelude.{◌≡◌, ◌<◌, ◌^◌, ℕ, true, false, List, Some, length, IfOk, IfErr, IfSome, IfNone};
 ghost use Rattle.cc_model.specs.declared.trees.Item.{Item as SourceItem};
-ghost use Rattle.cc_model.specs.declared.tokens.Token.{Token as SourceToken};
 ghost use Rattle.cc_model.specs.Source.{text_at};
 ghost use Rattle.cc_model.specs.Scopes as scopes;
 ghost use Rattle.cc_model.specs.Faults as faults;
 ghost use Rattle.cc_model.specs.CheckedProgram.{IsChecked};
-ghost use Rattle.c_types.specs.FirstFault.{fault, IsLeast};
+ghost use Rattle.c_types.specs.FirstFault.{fault};
 ghost use Rattle.c_types.specs.Resolving.{AreRead};
 ghost use Rattle.c_types.specs.Refused.{IsTypeFault};
 
-use crate::file::file_of;
-use crate::items::items;
-use crate::least::{Found, first_fault, sites_fault};
-use crate::names::{function_in, has_name};
+use crate::least::Found;
+use crate::reading::{Reading, fault_in, read};
 use crate::resolved::resolved;
-use crate::sites::sites_in;
+use c_scopes::names::{function_in, has_name};
 use cc_model::base::NoMemory;
-use cc_model::trees::{Item, Program};
-use cc_model::typing::{File, Note, Wrong};
-use cc_model::{Checked, Site, Token};
-use sqlite_items::Items;
+use cc_model::trees::Program;
+use cc_model::typing::{File, Wrong};
+use cc_model::{Checked, Token};
 use std::alloc::Global;
 use thiserror::Error;
 
@@ -76,38 +72,31 @@ fn tested(file: &File, entry: &str) -> Option<u32>
     function_in(entry.as_bytes(), file.functions.as_slice())
 }
 
-/// What the items of a program declare, what is said of them, and their sites in order.
-#[derive(Drop)]
-struct Reading {
-    file: File,
-    notes: Items<Note>,
-    sites: Items<Site>,
-}
-
-/// What items declare, what is said of them, and their sites.
-fn read(alloc: Global, source: &[u8], tokens: &[Token], parts: &[Item]) -> Result<Reading, NoMemory>
-    ensures read { IfOk result (λ r. AreRead
-        (text_at source.now tokens.now) tokens.now parts.now r.file r.notes r.sites) }
-    ensures few_tags { IfOk result (λ r. length (r.file).tags < 2 ^ 32) }
-    ensures few_functions { IfOk result (λ r. length (r.file).functions < 2 ^ 32) }
+/// The checked program of a well typed one that was read, to test the function of this name.
+fn accepted(
+    alloc: Global,
+    source: &[u8],
+    tokens: &[Token],
+    program: Program,
+    reading: Reading,
+    entry: &str,
+) -> Result<Checked, TypeFault>
+    requires read { AreRead (text_at source.now tokens.now) tokens.now (program).items (reading).file (reading).notes
+        (reading).sites }
+    requires well_typed { faults.WellTyped (text_at source.now tokens.now) (program).items }
+    requires few_tags { length ((reading).file).tags < 2 ^ 32 }
+    requires few_functions { length ((reading).file).functions < 2 ^ 32 }
+    ensures checked { IfOk result (λ c. (c.program ≡ program)
+        × IsChecked (text_at source.now tokens.now) tokens.now entry.now c) }
+    ensures refused { IfErr result (λ e. IsTypeFault (text_at source.now tokens.now) (program).items entry.now e) }
 {
-    let file = file_of(alloc, source, tokens, parts)?;
-    let mut notes = Items::new(alloc);
-    items(alloc, source, tokens, &file, parts, &mut notes)?;
-    let sites = sites_in(alloc, tokens, parts)?;
-    Ok(Reading { file, notes, sites })
-}
-
-/// The first fault of what was read.
-fn fault_in(reading: &Reading) -> Option<Found>
-    ensures { (text : ℕ → scopes.Text) (tokens : List SourceToken) (l : List SourceItem)
-        → AreRead text tokens l (reading.now).file (reading.now).notes (reading.now).sites
-        → IsLeast (faults.faults_in text l) result }
-{
-    first_fault(
-        reading.notes.as_slice(),
-        sites_fault(reading.sites.as_slice()),
-    )
+    let Some(number) = tested(&reading.file, entry) else {
+        return Err(TypeFault::NoEntry);
+    };
+    match resolved(alloc, source, tokens, program, reading, number) {
+        Ok(checked) => Ok(checked),
+        Err(NoMemory) => Err(TypeFault::NoMemory),
+    }
 }
 
 /// The checked program of a program that the tokens of a source are, to test the function of this name. The program is
@@ -131,21 +120,5 @@ pub fn check(
     if let Some(found) = fault_in(&reading) {
         return Err(fault_of(found));
     }
-    let Reading { file, notes, sites } = reading;
-    let Some(number) = tested(&file, entry) else {
-        return Err(TypeFault::NoEntry);
-    };
-    match resolved(
-        alloc,
-        source,
-        tokens,
-        program,
-        &file,
-        notes.as_slice(),
-        sites,
-        number,
-    ) {
-        Ok(checked) => Ok(checked),
-        Err(NoMemory) => Err(TypeFault::NoMemory),
-    }
+    accepted(alloc, source, tokens, program, reading, entry)
 }

@@ -1,27 +1,30 @@
 //! The checked program, from what is said of a well typed one.
 
 ghost use Rattle.std.specs.Prelude.{◌≡◌, ◌<◌, ◌^◌, length, map, IfOk};
+ghost use Rattle.cc_model.specs.declared.typing.Function.{Function};
 ghost use Rattle.cc_model.specs.Source.{text_at};
 ghost use Rattle.cc_model.specs.Scopes as scopes;
 ghost use Rattle.cc_model.specs.Faults as faults;
 ghost use Rattle.cc_model.specs.CheckedProgram as checked;
-ghost use Rattle.c_types.specs.Noted.{Tells};
+ghost use Rattle.c_scopes.specs.Noted.{Tells};
+ghost use Rattle.c_numbering.specs.Numbers.{IsNumbering};
 ghost use Rattle.c_types.specs.Resolving.{AreRead, IsTested};
-ghost use Rattle.c_types.specs.CheckedTypes.{AreCheckedTypes};
+ghost use Rattle.c_numbering.specs.CheckedTypes.{AreCheckedTypes};
 
-use crate::before::pass;
-use crate::declared::declared_types;
-use crate::file_names::tag_index;
-use crate::locals::locals_of;
-use crate::noted::{Said, gather, names, type_at};
-use crate::numbering::{Numbering, number_types};
+use crate::reading::Reading;
 use crate::sites::lines_of;
 use c_names::{Preceding, TagIndex};
+use c_numbering::numbering::{Numbering, number_types};
+use c_rules::locals::locals_of;
+use c_scopes::before::pass;
+use c_scopes::declared::declared_types;
+use c_scopes::file_names::tag_index;
+use c_scopes::noted::{Said, gather, names, type_at};
 use c_trees::expression_tokens;
 use cc_model::base::NoMemory;
 use cc_model::trees::{Item, Program};
 use cc_model::typing::{CType, File, Note, Text};
-use cc_model::{Checked, Site, Token};
+use cc_model::{Checked, Token};
 use sqlite_items::Items;
 use std::alloc::Global;
 
@@ -89,6 +92,35 @@ fn behind_all(
     behind(alloc, source, tokens, &index, items)
 }
 
+/// The types of a file by their numbers, with those of expressions and declarations.
+fn numbered(
+    alloc: Global,
+    source: &[u8],
+    tokens: &[Token],
+    items: &[Item],
+    file: &File,
+    expressions: &[CType],
+    declarations: &[CType],
+) -> Result<Numbering, NoMemory>
+    requires few_tags { length (file.now).tags < 2 ^ 32 }
+    requires few_functions { length (file.now).functions < 2 ^ 32 }
+    ensures { IfOk result (λ n. IsNumbering expressions.now declarations.now file.now
+        (scopes.after_items (text_at source.now tokens.now) (file.now).tags scopes.nothing_before items.now).globals
+        (map (λ (f : Function). checked.slots_in
+        (text_at source.now tokens.now) file.now scopes.nothing_before f.name items.now) (file.now).functions) n) }
+{
+    let locals = locals_of(alloc, source, tokens, file, items)?;
+    let before = behind_all(alloc, source, tokens, &file.tags, items)?;
+    number_types(
+        alloc,
+        expressions,
+        declarations,
+        file,
+        before.globals(),
+        locals.as_slice(),
+    )
+}
+
 /// The types of a well typed program by their numbers.
 fn types_by_number(
     alloc: Global,
@@ -110,15 +142,14 @@ fn types_by_number(
 {
     let expressions = expression_types(alloc, items, notes, said)?;
     let declarations = declared_types(alloc, notes)?;
-    let locals = locals_of(alloc, source, tokens, file, items)?;
-    let before = behind_all(alloc, source, tokens, &file.tags, items)?;
-    number_types(
+    numbered(
         alloc,
+        source,
+        tokens,
+        items,
+        file,
         expressions.as_slice(),
         declarations.as_slice(),
-        file,
-        before.globals(),
-        locals.as_slice(),
     )
 }
 
@@ -128,28 +159,28 @@ pub fn resolved(
     source: &[u8],
     tokens: &[Token],
     program: Program,
-    file: &File,
-    notes: &[Note],
-    sites: Items<Site>,
+    reading: Reading,
     entry: u32,
 ) -> Result<Checked, NoMemory>
-    requires read { AreRead (text_at source.now tokens.now) tokens.now (program).items file.now notes.now sites }
+    requires read { AreRead (text_at source.now tokens.now) tokens.now (program).items (reading).file (reading).notes
+        (reading).sites }
     requires well_typed { faults.WellTyped (text_at source.now tokens.now) (program).items }
-    requires few_tags { length (file.now).tags < 2 ^ 32 }
-    requires few_functions { length (file.now).functions < 2 ^ 32 }
+    requires few_tags { length ((reading).file).tags < 2 ^ 32 }
+    requires few_functions { length ((reading).file).functions < 2 ^ 32 }
     ensures program { IfOk result (λ c. c.program ≡ program) }
     ensures checked { IfOk result (λ c. (name : scopes.Text)
         → IsTested (text_at source.now tokens.now) (program).items name entry
         → checked.IsChecked (text_at source.now tokens.now) tokens.now name c) }
 {
-    let said = gather(alloc, notes)?;
+    let Reading { file, notes, sites } = reading;
+    let said = gather(alloc, notes.as_slice())?;
     let types = types_by_number(
         alloc,
         source,
         tokens,
         program.items.as_slice(),
-        file,
-        notes,
+        &file,
+        notes.as_slice(),
         said.as_slice(),
     )?;
     let names = names(alloc, tokens.len(), said.as_slice())?;

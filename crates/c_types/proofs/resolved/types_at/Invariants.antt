@@ -1,6 +1,6 @@
 use Rattle.std.proofs.Common.{◌≡◌, ◌++◌, drop, map}
 use Rattle.cc_model.specs.CheckedProgram as checked
-use Rattle.c_types.specs.Noted.{Tells}
+use Rattle.c_scopes.specs.Noted.{Tells}
 use Rattle.c_types.proofs.resolved.types_at.Given as goal
 
 abbrev pub invariant-loop-token : goal.invariant-loop-token

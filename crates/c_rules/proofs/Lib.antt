@@ -1,0 +1,10 @@
+pub mod FoundLemmas
+pub mod JudgeLemmas
+pub mod TellingLaws
+pub mod StatementLaws
+pub mod ArgumentLemmas
+pub mod FirstLemmas
+pub mod LengthLemmas
+pub mod StructLaws
+pub mod LocalLaws
+pub mod BodyLaws

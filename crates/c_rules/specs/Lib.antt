@@ -1,0 +1,4 @@
+pub mod Apart
+pub mod Telling
+pub mod Views
+pub mod BodyLocals

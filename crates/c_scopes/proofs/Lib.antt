@@ -1,0 +1,7 @@
+pub mod ListLemmas
+pub mod ProductLemmas
+pub mod FieldLemmas
+pub mod PlaceLaws
+pub mod Going
+pub mod ToldTypes
+pub mod GatherLemmas

@@ -1,0 +1,3 @@
+pub mod Places
+pub mod FileNames
+pub mod Noted

@@ -1,5 +1,0 @@
-use Rattle.std.proofs.Common.{length}
-use Rattle.c_types.proofs.declarators.+in_scope.Given as goal
-
-abbrev pub decreases-in_scope : goal.decreases-in_scope
-decreases-in_scope l = length l.around.now

@@ -1,6 +1,0 @@
-use Rattle.std.proofs.Common.{◌≡◌, ◌++◌, drop}
-use Rattle.c_types.specs.FileNames as kept
-use Rattle.c_types.proofs.file_names.member_names.Given as goal
-
-abbrev pub invariant-loop-member : goal.invariant-loop-member
-invariant-loop-member l = l.names ++ kept.member_names (drop l.member-index l.members) ≡ kept.member_names l.fn.members

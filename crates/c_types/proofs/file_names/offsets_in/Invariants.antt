@@ -1,6 +1,0 @@
-use Rattle.std.proofs.Common.{◌≡◌, ◌++◌, drop}
-use Rattle.c_types.specs.FileNames as kept
-use Rattle.c_types.proofs.file_names.offsets_in.Given as goal
-
-abbrev pub invariant-loop-member : goal.invariant-loop-member
-invariant-loop-member l = l.offsets ++ kept.offsets_in l.sizes l.size (drop l.member-index l.members) ≡ kept.offsets_in l.fn.sizes 0 l.fn.members

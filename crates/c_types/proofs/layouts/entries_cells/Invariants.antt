@@ -1,6 +1,0 @@
-use Rattle.std.proofs.Common.{◌≡◌, [], drop}
-use Rattle.c_types.specs.Layouts.{entries_cells}
-use Rattle.c_types.proofs.layouts.entries_cells.Given as goal
-
-abbrev pub invariant-loop-ty : goal.invariant-loop-ty
-invariant-loop-ty l = entries_cells l.structs l.layouts (drop l.ty-index l.tys) ≡ entries_cells l.fn.structs [] l.fn.tys

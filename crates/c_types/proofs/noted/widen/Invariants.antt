@@ -1,9 +1,0 @@
-use Rattle.std.proofs.Common.{◌≡◌, ℕ, ◌+◌, ◌-◌, length}
-use Rattle.c_types.specs.Noted.{entry}
-use Rattle.c_types.proofs.noted.widen.Given as goal
-
-abbrev pub invariant-loop-table : goal.invariant-loop-table
-invariant-loop-table l = (i : ℕ) → entry l.table i ≡ entry l.initial.table i
-
-abbrev pub decreases-loop-table : goal.decreases-loop-table
-decreases-loop-table l = (l.t + 1) - length l.table

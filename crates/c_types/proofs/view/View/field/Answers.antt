@@ -1,5 +1,0 @@
-use Rattle.c_types.proofs.FieldLemmas.{sized_behind}
-use Rattle.c_types.proofs.view.View.field.Goals as goal
-
-pub returns-clause-sized : goal.returns-clause-sized
-returns-clause-sized c = sized_behind c.push.result c.args.self.now.file.now.sizes c.as_slice.result.now c.args.earlier.now c.push.new.self _ c.args.size.now c.with_field.result c.as_slice.ensures c.requires.sized c.with_field.ensures c.push.ensures
