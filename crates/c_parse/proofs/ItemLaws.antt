@@ -24,18 +24,18 @@ use Rattle.cc_model.specs.ReadTypes as ty
 use Rattle.cc_model.specs.ReadTypes.{BaseType, Typed, Stars}
 use Rattle.cc_model.specs.ReadStatements as rs
 use Rattle.cc_model.specs.ReadItems as by
-use Rattle.c_parse.specs.Descent.{Got, got, P, Ends, is_sign, is_key, is_name}
-use Rattle.c_parse.specs.DescentStatements.{here, branch, given, number_at}
-use Rattle.c_parse.specs.DescentStatements as st
+use Rattle.c_expressions.specs.Descent.{Got, got, P, Ends, is_sign, is_key, is_name}
+use Rattle.c_statements.specs.DescentStatements.{here, branch, given, number_at}
+use Rattle.c_statements.specs.DescentStatements as st
 use Rattle.c_parse.specs.DescentItems.{add_named, with_names, ItemStart, a_typedef, a_struct, a_void, a_typed, struct_or, item_at, is_end}
 use Rattle.c_parse.specs.DescentItems as it
-use Rattle.c_parse.proofs.Pieces.{ends_bind, ends_then, ends_base, ends_pure, ends_here, ends_yes, ends_no, ends_some, ends_none, sign_yes, key_yes, take_yes, expect_yes, key_taken, name_taken, close_yes, many_stop, many_go, Made, made_bind, made_here, made_branch, made_given, made_pure, made_wrong, made_many, then_take, then_name, then_close, then_sign, then_word}
-use Rattle.c_parse.proofs.Made.{made_map}
-use Rattle.c_parse.proofs.Tests.{is_key_tells, is_name_tells}
-use Rattle.c_parse.proofs.ExprLaws.{free, base_complete, base_sound, stars_complete, stars_sound, type_complete, type_sound}
-use Rattle.c_parse.proofs.Firsts.{ender, ender_free, ender_assign, ender_name, free_star, name_free}
-use Rattle.c_parse.proofs.StmtComplete.{has_yes, has_no, number_yes, lengths_yes, declares_yes, listed, listing_ends, commas_yes, semicolon_ends, close_ends, semicolon_no_comma, close_no_comma, assigned_free, block_yes}
-use Rattle.c_parse.proofs.StmtSound.{has_tells, then_number, declarator_made, declares_sound, commas_more_sound, commas_sound, number_tells, block_sound}
+use Rattle.c_statements.proofs.Pieces.{ends_bind, ends_then, ends_base, ends_pure, ends_here, ends_yes, ends_no, ends_some, ends_none, sign_yes, key_yes, take_yes, expect_yes, key_taken, name_taken, close_yes, many_stop, many_go, Made, made_bind, made_here, made_branch, made_given, made_pure, made_wrong, made_many, then_take, then_name, then_close, then_sign, then_word}
+use Rattle.c_expressions.proofs.Made.{made_map}
+use Rattle.c_expressions.proofs.Tests.{is_key_tells, is_name_tells}
+use Rattle.c_expressions.proofs.ExprLaws.{free, base_complete, base_sound, stars_complete, stars_sound, type_complete, type_sound}
+use Rattle.c_statements.proofs.Firsts.{ender, ender_free, ender_assign, ender_name, free_star, name_free}
+use Rattle.c_statements.proofs.StmtComplete.{has_yes, has_no, number_yes, lengths_yes, declares_yes, listed, listing_ends, commas_yes, semicolon_ends, close_ends, semicolon_no_comma, close_no_comma, assigned_free, block_yes}
+use Rattle.c_statements.proofs.StmtSound.{has_tells, then_number, declarator_made, declares_sound, commas_more_sound, commas_sound, number_tells, block_sound}
 
 -- ---- parameters with names
 

@@ -9,13 +9,13 @@ use Rattle.cc_model.specs.declared.trees.Item.{Item}
 use Rattle.cc_model.specs.declared.trees.Program.{Program}
 use Rattle.cc_model.specs.Spots.{Spot, start, kind_at, shallow}
 use Rattle.cc_model.specs.Reads.{Accepts}
-use Rattle.c_parse.specs.declared.fault.ParseFault.{ParseFault}
-use Rattle.c_parse.specs.declared.fault.ParseFault.TheVariants.{Syntax, TooDeep}
-use Rattle.c_parse.specs.Descent.{Got, Ends}
+use Rattle.c_expressions.specs.declared.fault.ParseFault.{ParseFault}
+use Rattle.c_expressions.specs.declared.fault.ParseFault.TheVariants.{Syntax, TooDeep}
+use Rattle.c_expressions.specs.Descent.{Got, Ends}
 use Rattle.c_parse.specs.DescentItems.{ItemStart, a_typed, item_at, is_end, add_named, with_names}
 use Rattle.c_parse.specs.DescentItems as it
 use Rattle.c_parse.specs.Gives.{GivesOnly}
-use Rattle.c_parse.specs.Shown.{ShowsFault}
+use Rattle.c_expressions.specs.Shown.{ShowsFault}
 use Rattle.c_parse.proofs.ItemLaws.{by_item}
 use Rattle.c_parse.proofs.Programs.{fault_only}
 

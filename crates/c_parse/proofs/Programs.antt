@@ -5,12 +5,12 @@ use Rattle.cc_model.specs.declared.trees.Item.{Item}
 use Rattle.cc_model.specs.declared.trees.Program.{Program}
 use Rattle.cc_model.specs.Spots.{Spot, start, kind_at, shallow}
 use Rattle.cc_model.specs.Reads.{Reads, Accepts}
-use Rattle.c_parse.specs.declared.fault.ParseFault.{ParseFault}
-use Rattle.c_parse.specs.declared.fault.ParseFault.TheVariants.{Syntax, TooDeep, NoMemory}
-use Rattle.c_parse.specs.Descent.{got, Ends}
+use Rattle.c_expressions.specs.declared.fault.ParseFault.{ParseFault}
+use Rattle.c_expressions.specs.declared.fault.ParseFault.TheVariants.{Syntax, TooDeep, NoMemory}
+use Rattle.c_expressions.specs.Descent.{got, Ends}
 use Rattle.c_parse.specs.DescentItems as it
-use Rattle.c_parse.specs.Shown.{ShowsFault}
-use Rattle.c_parse.proofs.Pieces.{ends_once}
+use Rattle.c_expressions.specs.Shown.{ShowsFault}
+use Rattle.c_statements.proofs.Pieces.{ends_once}
 use Rattle.c_parse.proofs.ItemLaws.{items_yes, items_sound}
 
 -- what the tokens read as is what the descent gives

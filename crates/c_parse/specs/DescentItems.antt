@@ -19,10 +19,10 @@ use Rattle.cc_model.specs.declared.trees.GlobalPart.{GlobalPart}
 use Rattle.cc_model.specs.declared.trees.Item.{Item}
 use Rattle.cc_model.specs.declared.trees.Item.TheVariants as an_item
 use Rattle.cc_model.specs.Spots.{opened, passed}
-use Rattle.c_parse.specs.Descent.{P, ◌>>=◌, ◌>>◌, pure, wrong, is_sign, is_key, is_name}
-use Rattle.c_parse.specs.Descent as of
-use Rattle.c_parse.specs.DescentStatements.{here, branch, given, number_at}
-use Rattle.c_parse.specs.DescentStatements as stmts
+use Rattle.c_expressions.specs.Descent.{P, ◌>>=◌, ◌>>◌, pure, wrong, is_sign, is_key, is_name}
+use Rattle.c_expressions.specs.Descent as of
+use Rattle.c_statements.specs.DescentStatements.{here, branch, given, number_at}
+use Rattle.c_statements.specs.DescentStatements as stmts
 
 -- the parameters of a function, where each has a name
 unfoldable pub add_named : TypeName → Option ℕ → Option (List Param) → Option (List Param)

@@ -1,6 +1,3 @@
-pub mod Descent
-pub mod Shown
 pub mod Gives
-pub mod DescentStatements
 pub mod DescentItems
-pub mod ShownStatements
+pub mod ShownItems

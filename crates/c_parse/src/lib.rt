@@ -7,23 +7,16 @@ ghost use Rattle.cc_model.specs.declared.trees.Program.{Program};
 ghost use Rattle.cc_model.specs.Reads.{Accepts, Reads};
 ghost use Rattle.c_parse.specs.Gives.{GivesOnly};
 
-mod declarations;
-mod expressions;
-mod fault;
+mod functions;
+mod globals;
 mod items;
 mod openings;
-mod operators;
-mod parser;
-mod simple;
-mod spot;
-mod starts;
-mod statements;
-mod types;
+mod structs;
 
-use crate::parser::Parser;
-use crate::spot::Spot;
+use crate::items::items;
+pub use c_expressions::ParseFault;
+use c_expressions::{Parser, Spot};
 use cc_model::{Program, Token};
-pub use fault::ParseFault;
 use std::alloc::Global;
 
 /// The program that the tokens are. `Syntax` or `TooDeep` where they are accepted as none, at the token where the
@@ -39,7 +32,7 @@ pub fn parse(alloc: Global, tokens: &[Token]) -> Result<Program, ParseFault>
         → (p : Program) → Accepts tokens.now p → ⊥ }
 {
     let parser = Parser { alloc, tokens };
-    let (items, _end) = parser.items(Spot { at: 0, level: 0 })?;
+    let (items, _end) = items(&parser, Spot { at: 0, level: 0 })?;
     Ok(Program { items })
 }
 

@@ -1,6 +1,6 @@
 use Rattle.c_parse.proofs.Programs.{given_reads, given_only}
 use Rattle.c_parse.proofs.ItemSteps.{exit_only, refuses}
-use Rattle.c_parse.specs.Shown.{place}
+use Rattle.c_expressions.specs.Shown.{place}
 use Rattle.c_parse.proofs.parse.Goals as goal
 
 pub returns-in_err-items-clause-only : goal.returns-in_err-items-clause-only

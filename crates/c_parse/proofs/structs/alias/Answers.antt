@@ -1,0 +1,21 @@
+use Rattle.cc_model.specs.Spots.{kind_at, shallow}
+use Rattle.c_parse.specs.DescentItems as it
+use Rattle.c_expressions.specs.Shown.{place}
+use Rattle.c_statements.proofs.Pieces.{ends_then, ends_stop, ends_pure, ends_here}
+use Rattle.c_statements.proofs.StmtSteps.{leaves_take}
+use Rattle.c_parse.proofs.structs.alias.Goals as goal
+
+pub returns-in_err-end-clause-shown : goal.returns-in_err-end-clause-shown
+unfolding it.alias
+returns-in_err-end-clause-shown c =
+    leaves_take _ (λ _. it.alias (kind_at c.args.parser.now.tokens.now) shallow c.args.tag) (place c.args.spot) _ _ c.from_residual.ensures c.in_err-end.ensures.shown (λ x h. (ends_here _ (ends_stop _ _ h)))
+
+pub returns-in_err-after-clause-shown : goal.returns-in_err-after-clause-shown
+unfolding it.alias
+returns-in_err-after-clause-shown c =
+    leaves_take _ (λ _. it.alias (kind_at c.args.parser.now.tokens.now) shallow c.args.tag) (place c.args.spot) _ _ c.from_residual-in_err-after.ensures c.in_err-after.ensures.shown (λ x h. (ends_here _ (ends_then _ _ c.in_ok-end.ensures.shown (ends_stop _ _ h))))
+
+pub returns-clause-shown : goal.returns-clause-shown
+unfolding it.alias
+returns-clause-shown c =
+    (ends_here _ (ends_then _ _ c.in_ok-end.ensures.shown (ends_then _ _ c.in_ok-after.ensures.shown (ends_pure _ _))))

@@ -1,0 +1,30 @@
+use Rattle.std.proofs.Common.{rules}
+use Rattle.std.proofs.lemmas.Int.{to_z-of_z}
+use mir.Syntax.{w32}
+use mir.Val.{SFits}
+use Rattle.cc_model.specs.Spots.{kind_at, shallow}
+use Rattle.c_statements.specs.DescentStatements as st
+use Rattle.c_expressions.specs.Shown.{place}
+use Rattle.c_statements.proofs.Pieces.{ends_bind, ends_fail, ends_then, ends_stop, ends_pure, ends_here}
+use Rattle.c_statements.proofs.StmtSteps.{leaves, leaves_take}
+use Rattle.c_statements.proofs.declarations.length.Goals as goal
+
+pub returns-in_err-inner-clause-shown : goal.returns-in_err-inner-clause-shown
+unfolding st.length
+returns-in_err-inner-clause-shown c =
+    leaves_take _ (λ m. st.length (kind_at c.args.parser.now.tokens.now) shallow m) (place c.args.spot) _ _ c.from_residual.ensures c.in_err-inner.ensures.shown (λ x h. (ends_stop _ _ h))
+
+pub returns-in_err-value-clause-shown : goal.returns-in_err-value-clause-shown
+unfolding st.length
+returns-in_err-value-clause-shown c =
+    leaves (λ _. st.expect_number (kind_at c.args.parser.now.tokens.now) shallow) (place c.in_ok-inner.inner) (λ m. st.length (kind_at c.args.parser.now.tokens.now) shallow m) (place c.args.spot) _ _ c.from_residual-in_err-value.ensures c.in_err-value.ensures.shown (λ x h. (ends_then _ _ c.in_ok-inner.ensures.shown (ends_here _ (ends_fail _ _ h))))
+
+pub returns-in_err-after-clause-shown : goal.returns-in_err-after-clause-shown
+unfolding st.length
+returns-in_err-after-clause-shown c =
+    leaves_take _ (λ m. st.length (kind_at c.args.parser.now.tokens.now) shallow m) (place c.args.spot) _ _ c.from_residual-in_err-after.ensures c.in_err-after.ensures.shown (λ x h. (ends_then _ _ c.in_ok-inner.ensures.shown (ends_here _ (ends_bind _ _ c.in_ok-value.ensures.shown (ends_stop _ _ h)))))
+
+pub returns-clause-shown : goal.returns-clause-shown
+unfolding st.length
+returns-clause-shown c =
+    let h : SFits w32 c.in_ok-value.value = search rules in rw (to_z-of_z w32 c.in_ok-value.value h) (ends_then _ _ c.in_ok-inner.ensures.shown (ends_here _ (ends_bind _ _ c.in_ok-value.ensures.shown (ends_then _ _ c.in_ok-after.ensures.shown (ends_pure _ _)))))

@@ -1,0 +1,2 @@
+pub mod DescentStatements
+pub mod ShownStatements
