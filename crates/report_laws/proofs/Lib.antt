@@ -2,3 +2,4 @@ pub mod Values
 pub mod Joined
 pub mod Lines
 pub mod Reports
+pub mod Readable
