@@ -3,3 +3,4 @@ pub mod Joined
 pub mod Lines
 pub mod Reports
 pub mod Readable
+pub mod Beginnings

@@ -408,3 +408,19 @@ lines_once (x ∷ l) (y ∷ m) h k e =
     let c = one_line (first x) (others x) (first y) (others y) (text_of l) (text_of m) (first_is x, others_are x h.0) (first_is y, others_are y k.0)
         (sym (shape x (text_of l)) ∙ e ∙ shape y (text_of m)) in
     ap₂ (λ (a : Line) (b : List Line). a ∷ b) (words_once x y h.0 k.0 (ap head_of c.0) (ap tail_of c.0)) (lines_once l m h.1 k.1 c.1)
+
+-- a text of clear lines that begins another is that of the first lines of the other
+pub record Begins (l m : List Line) (r : List ℕ) : Type 0 where
+  pub behind : List Line
+  pub lines : m ≡ l ++ behind
+  pub text : r ≡ text_of behind
+
+pub lines_begin : (l m : List Line) (r : List ℕ) → AreClear l → AreClear m → text_of l ++ r ≡ text_of m → Begins l m r
+lines_begin [] m r h k e = record { behind = m; lines = refl; text = e }
+lines_begin (x ∷ l) [] r h k e = absurd (no_line (first x) (others x) (text_of l ++ r) (sym e ∙ append_assoc (line_text x) (text_of l) r ∙ shape x (text_of l ++ r)))
+lines_begin (x ∷ l) (y ∷ m) r h k e =
+    let c = one_line (first x) (others x) (first y) (others y) (text_of l ++ r) (text_of m) (first_is x, others_are x h.0) (first_is y, others_are y k.0)
+        (sym (append_assoc (line_text x) (text_of l) r ∙ shape x (text_of l ++ r)) ∙ e ∙ shape y (text_of m)) in
+    let b = lines_begin l m r h.1 k.1 c.1 in
+    let s = words_once x y h.0 k.0 (ap head_of c.0) (ap tail_of c.0) in
+    record { behind = b.behind; lines = ap₂ (λ (a : Line) (t : List Line). a ∷ t) (sym s) b.lines; text = b.text }

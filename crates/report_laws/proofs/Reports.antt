@@ -23,11 +23,11 @@ use Rattle.report_laws.proofs.Lines.{Line, bounds, item, term, event, complete, 
 
 -- ---- items and terms before other lines
 
-abbrev items_then : List Item → List Line → List Line
+abbrev pub items_then : List Item → List Line → List Line
 items_then [] r = r
 items_then (x ∷ l) r = item x ∷ items_then l r
 
-abbrev terms_then : List Term → List Line → List Line
+abbrev pub terms_then : List Term → List Line → List Line
 terms_then [] r = r
 terms_then (e ∷ l) r = term e ∷ terms_then l r
 
@@ -70,12 +70,12 @@ events_in (event i e ∷ l) = e ∷ events_in l
 events_in (_ ∷ l) = events_in l
 
 -- what a report ends as
-data Kind : Type 0 where
+pub data Kind : Type 0 where
   listing : Kind
   walk : (runs covered outcomes : ℕ) → Kind
   trace : Kind
 
-abbrev kind_in : List Line → Kind
+abbrev pub kind_in : List Line → Kind
 kind_in [] = trace
 kind_in (complete p r ∷ l) = listing
 kind_in (incomplete c ∷ l) = listing
@@ -109,7 +109,7 @@ module _ (r : List Line) where
 
 -- ---- a report of bounds, items, terms and a last line
 
-abbrev body : Limits → List Item → List Term → Line → List Line
+abbrev pub body : Limits → List Item → List Term → Line → List Line
 body b items terms last = bounds b ∷ items_then items (terms_then terms (last ∷ []))
 
 body_text : (b : Limits) (items : List Item) (terms : List Term) (last : Line) → text_of (body b items terms last) ≡ bounds_line b ++ item_lines items ++ term_lines terms ++ line_text last
@@ -137,11 +137,11 @@ body_kind b items terms last = items_kind (terms_then terms (last ∷ [])) items
 
 -- ---- listings
 
-abbrev last_as : Listing → Bool → Line
+abbrev pub last_as : Listing → Bool → Line
 last_as l true = complete (path_count l) (run_count l)
 last_as l false = incomplete (counts_of l)
 
-abbrev last_of : Listing → Line
+abbrev pub last_of : Listing → Line
 last_of l = last_as l (nat_eq (total (counts_of l)) 0)
 
 last_text : (l : Listing) (q : Bool) → line_text (last_as l q) ≡ (if q then complete_line l else incomplete_line (counts_of l))
@@ -160,16 +160,16 @@ last_clear : (l : Listing) (q : Bool) → HasNarrowLines l → IsClear (last_as 
 last_clear l true h = (h.paths, h.runs)
 last_clear l false h = h.counts
 
-abbrev listing_lines : Listing → List Line
+abbrev pub listing_lines : Listing → List Line
 listing_lines l = body l.bounds l.items l.terms (last_of l)
 
-listing_text : (l : Listing) → text_of (listing_lines l) ≡ report_text l
+pub listing_text : (l : Listing) → text_of (listing_lines l) ≡ report_text l
 listing_text l = body_text l.bounds l.items l.terms (last_of l) ∙ ap (λ t. bounds_line l.bounds ++ item_lines l.items ++ term_lines l.terms ++ t) (last_text l (nat_eq (total (counts_of l)) 0))
 
-listing_clear : (l : Listing) → HasWords l → AreClear (listing_lines l)
+pub listing_clear : (l : Listing) → HasWords l → AreClear (listing_lines l)
 listing_clear l h = body_clear l.bounds l.items l.terms (last_of l) h.bounds h.items (h.narrow).terms (last_clear l (nat_eq (total (counts_of l)) 0) h.narrow)
 
-listing_kind : (l : Listing) → kind_in (listing_lines l) ≡ listing
+pub listing_kind : (l : Listing) → kind_in (listing_lines l) ≡ listing
 listing_kind l = body_kind l.bounds l.items l.terms (last_of l) ∙ last_kind l (nat_eq (total (counts_of l)) 0)
 
 listing_items : (l : Listing) → items_in (listing_lines l) ≡ l.items
@@ -190,19 +190,19 @@ one_listing l m h k e =
 
 -- ---- walks
 
-abbrev walk_lines : Walk → List Line
+abbrev pub walk_lines : Walk → List Line
 walk_lines w = body w.bounds w.items w.terms (ended w.runs w.covered w.outcomes)
 
-walk_text : (w : Walk) → text_of (walk_lines w) ≡ walk_report w
+pub walk_text : (w : Walk) → text_of (walk_lines w) ≡ walk_report w
 walk_text w = body_text w.bounds w.items w.terms (ended w.runs w.covered w.outcomes)
 
-walk_clear : (w : Walk) → HasWalkWords w → AreClear (walk_lines w)
+pub walk_clear : (w : Walk) → HasWalkWords w → AreClear (walk_lines w)
 walk_clear w h = body_clear w.bounds w.items w.terms (ended w.runs w.covered w.outcomes) h.bounds h.items h.terms (h.runs, h.covered, h.outcomes)
 
 walk_last : (r c m : ℕ) → IsLast (ended r c m)
 walk_last r c m = record { items = refl; terms = refl }
 
-walk_kind : (w : Walk) → kind_in (walk_lines w) ≡ walk w.runs w.covered w.outcomes
+pub walk_kind : (w : Walk) → kind_in (walk_lines w) ≡ walk w.runs w.covered w.outcomes
 walk_kind w = body_kind w.bounds w.items w.terms (ended w.runs w.covered w.outcomes)
 
 walk_items : (w : Walk) → items_in (walk_lines w) ≡ w.items
@@ -313,7 +313,7 @@ one_run p q b c g h v w e =
 -- ---- the three kinds differ
 
 -- which kind it is
-abbrev rank : Kind → ℕ
+abbrev pub rank : Kind → ℕ
 rank listing = 0
 rank (walk r c m) = 1
 rank trace = 2

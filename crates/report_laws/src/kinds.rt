@@ -1,6 +1,6 @@
 //! Reports of listings, of walks and of traces.
 
-ghost use Rattle.std.specs.Prelude.{◌≡◌};
+ghost use Rattle.std.specs.Prelude.{◌≡◌, ◌++◌, ℕ, List, []};
 ghost use Rattle.cc_base.specs.declared.inputs.Input.{Input};
 ghost use Rattle.cc_base.specs.Limits.{Limits};
 ghost use Rattle.cc_model.specs.Core.{Program};
@@ -18,4 +18,16 @@ pub fn reports_of_three_kinds_differ()
         → report_text l ≡ trace_text p b h → ⊥ }
     ensures walk_trace { (w : Walk) (p : Program) (b : Limits) (h : Input) → HasWalkWords w → HasTraceWords p b h
         → walk_report w ≡ trace_text p b h → ⊥ }
+{}
+
+/// The report of a listing or of a walk begins no other report of a listing or a walk. So a first part of one is none.
+pub fn no_report_begins_another()
+    ensures listing { (l m : Listing) (rest : List ℕ) → HasWords l → HasWords m
+        → report_text l ++ rest ≡ report_text m → rest ≡ [] }
+    ensures walk { (w v : Walk) (rest : List ℕ) → HasWalkWords w → HasWalkWords v
+        → walk_report w ++ rest ≡ walk_report v → rest ≡ [] }
+    ensures listing_walk { (l : Listing) (w : Walk) (rest : List ℕ) → HasWords l → HasWalkWords w
+        → report_text l ++ rest ≡ walk_report w → ⊥ }
+    ensures walk_listing { (w : Walk) (l : Listing) (rest : List ℕ) → HasWalkWords w → HasWords l
+        → walk_report w ++ rest ≡ report_text l → ⊥ }
 {}
