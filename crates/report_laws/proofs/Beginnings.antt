@@ -6,7 +6,8 @@ use Rattle.cc_model.specs.Report.{report_text, total}
 use Rattle.cc_model.specs.Tested.{Term}
 use Rattle.report_laws.specs.Walks.{Walk, walk_report}
 use Rattle.report_laws.specs.Words.{HasWords, HasWalkWords}
-use Rattle.report_laws.proofs.Lines.{Line, bounds, item, term, event, complete, incomplete, ended, text_of, AreClear, lines_begin}
+use Rattle.report_laws.proofs.LineWords.{Line, complete, incomplete, ended, text_of, AreClear}
+use Rattle.report_laws.proofs.Lines.{lines_begin}
 use Rattle.report_laws.proofs.Reports.{items_then, terms_then, body, kind_in, rank, last_as, last_of, listing_lines, listing_text, listing_clear, listing_kind, walk_lines, walk_text, walk_clear, walk_kind}
 
 -- what stands behind the first last line

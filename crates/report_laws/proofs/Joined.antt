@@ -1,5 +1,5 @@
 -- A line is that of one list of words.
-use Rattle.std.proofs.Common.{◌≡◌, ◌∙◌, sym, ap, ap₂, refl, subst, ℕ, zero, suc, List, [], ◌∷◌, ◌++◌, append_assoc, arith}
+use Rattle.std.proofs.Common.{◌≡◌, ◌∙◌, sym, ap, ap₂, ℕ, List, [], ◌∷◌, ◌++◌, append_assoc, arith}
 use Rattle.report_words.specs.Cuts.{Lacks}
 use Rattle.report_laws.proofs.Values.{cut_once}
 

@@ -1,5 +1,6 @@
 pub mod Values
 pub mod Joined
+pub mod LineWords
 pub mod Lines
 pub mod Reports
 pub mod Readable

@@ -1,5 +1,5 @@
 -- What the clauses of a search or a walk say of its items makes their words readable.
-use Rattle.std.proofs.Common.{◌≡◌, sym, subst, ℕ, ◌^◌, ◌<◌, inl, inr, List, length}
+use Rattle.std.proofs.Common.{sym, subst, ℕ, ◌^◌, ◌<◌, inl, inr, List, length}
 use Rattle.cc_base.specs.declared.inputs.Input.{Input}
 use Rattle.cc_base.specs.declared.inputs.Test.{Test}
 use Rattle.cc_base.specs.Limits.{Limits}

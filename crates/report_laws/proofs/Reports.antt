@@ -1,11 +1,11 @@
 -- The reports of listings, walks and traces as lines, and what their lines tell.
-use Rattle.std.proofs.Common.{◌≡◌, ◌∙◌, sym, ap, ap₂, refl, subst, ℕ, zero, suc, ◌+◌, ◌^◌, ◌<◌, ◌≤◌, inl, inr, Bool, true, false, List, [], ◌∷◌, ◌++◌, length, All, append_assoc, append-nil, arith, if◌then◌else◌, nat_eq}
+use Rattle.std.proofs.Common.{◌≡◌, ◌∙◌, sym, ap, ap₂, refl, ℕ, suc, ◌+◌, ◌^◌, ◌<◌, inl, inr, Bool, true, false, List, [], ◌∷◌, ◌++◌, length, All, append_assoc, append-nil, arith, if◌then◌else◌, nat_eq}
 use Rattle.cc_base.specs.declared.inputs.Input.{Input}
 use Rattle.cc_base.specs.declared.inputs.Test.{Test}
 use Rattle.cc_base.specs.declared.outcomes.Outcome.{Outcome}
 use Rattle.cc_base.specs.Limits.{Limits}
 use Rattle.cc_base.specs.Outcomes.{HasByte}
-use Rattle.cc_base.specs.Paths.{Path, In}
+use Rattle.cc_base.specs.Paths.{In}
 use Rattle.cc_model.specs.Core.{Program}
 use Rattle.cc_model.specs.Listing.{Item, test_item, Listing, path_count, run_count, counts_of}
 use Rattle.cc_model.specs.Meaning.{Entry}
@@ -18,8 +18,9 @@ use Rattle.report_words.proofs.Bytes.{all_first, all_later}
 use Rattle.search_base.specs.Readable.{IsNarrow}
 use Rattle.report_laws.specs.Traces.{ToldEvent, ToldRun, event_text, event_lines, test_at, trace_text, told_events, told}
 use Rattle.report_laws.specs.Walks.{Walk, walk_report}
-use Rattle.report_laws.specs.Words.{HasTestWords, HasItemWords, HasNarrowLines, HasWords, HasWalkWords, HasTraceWords}
-use Rattle.report_laws.proofs.Lines.{Line, bounds, item, term, event, complete, incomplete, ended, line_text, text_of, IsClear, AreClear, lines_once}
+use Rattle.report_laws.specs.Words.{HasItemWords, HasNarrowLines, HasWords, HasWalkWords, HasTraceWords}
+use Rattle.report_laws.proofs.LineWords.{Line, bounds, item, term, event, complete, incomplete, ended, line_text, text_of, IsClear, AreClear}
+use Rattle.report_laws.proofs.Lines.{lines_once}
 
 -- ---- items and terms before other lines
 

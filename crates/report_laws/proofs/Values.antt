@@ -1,8 +1,8 @@
 -- A text is that of one number, one path, one end, one input.
-use Rattle.std.proofs.Common.{◌≡◌, ◌∙◌, sym, ap, ap₂, refl, subst, ℕ, zero, suc, ◌+◌, ◌*◌, ◌^◌, ◌<◌, ◌≤◌, inl, inr, ℤ, pos, negsuc, List, [], ◌∷◌, ◌++◌, codes, All, length, append_assoc, append-nil, arith}
+use Rattle.std.proofs.Common.{◌≡◌, ◌∙◌, sym, ap, ap₂, refl, subst, ℕ, suc, ◌+◌, ◌*◌, ◌^◌, ◌<◌, inl, inr, ℤ, pos, negsuc, List, [], ◌∷◌, ◌++◌, codes, All, append_assoc, append-nil, arith}
 use Rattle.std.specs.Prelude.{unsigned_abs}
 use Rattle.std.specs.Fmt.{decimal, signed_decimal}
-use Rattle.std.proofs.lemmas.Fmt.{decimal_injective, decimal_nonempty}
+use Rattle.std.proofs.lemmas.Fmt.{decimal_injective}
 use Rattle.cc_base.specs.declared.ends.End.{End}
 use Rattle.cc_base.specs.declared.ends.End.TheVariants.{Return, Assume, Cut, Objects, Steps, Fault}
 use Rattle.cc_base.specs.declared.ends.FaultKind.{FaultKind}
@@ -13,8 +13,8 @@ use Rattle.cc_base.specs.Inputs.{numbers_text, cells_text, stream_text, map_text
 use Rattle.cc_base.specs.Outcomes.{HasByte}
 use Rattle.cc_base.specs.Paths.{Path, path_text}
 use Rattle.input_map.specs.Maps.{IsShort, AllShort}
-use Rattle.report_words.specs.Cuts.{Lacks, CutFirst}
-use Rattle.report_words.specs.Words.{HasLine, IsPath}
+use Rattle.report_words.specs.Cuts.{Lacks}
+use Rattle.report_words.specs.Words.{HasLine}
 use Rattle.report_words.proofs.Bytes.{bytes_tell, tilde_only}
 use Rattle.report_words.proofs.Cutting.{has_none, lacks_append, lacks_by_test, first_once, stands}
 use Rattle.report_words.proofs.Texts.{NoDigit, lacks_decimal, lacks_fault}
@@ -83,7 +83,7 @@ one_list z [] y (x ∷ k) h g e = absurd (no_cut 44 (signed_decimal y) (numbers_
 one_list z (x ∷ l) y [] h g e = absurd (no_cut 44 (signed_decimal z) (numbers_text (x ∷ l)) (signed_decimal y) (comma_lacks y g.0) (sym e ∙ comma (signed_decimal z) (numbers_text (x ∷ l))))
 one_list z (x ∷ l) y (w ∷ k) h g e =
     let r = cut_once 44 (signed_decimal z) (numbers_text (x ∷ l)) (signed_decimal y) (numbers_text (w ∷ k)) (comma_lacks z h.0) (comma_lacks y g.0)
-        (sym (comma (signed_decimal z) (numbers_text (x ∷ l))) ∙ e ∙ comma (signed_decimal y) (numbers_text (w ∷ k))) in
+    (sym (comma (signed_decimal z) (numbers_text (x ∷ l))) ∙ e ∙ comma (signed_decimal y) (numbers_text (w ∷ k))) in
     ap₂ (λ (a : ℤ) (b : List ℤ). a ∷ b) (one_signed z y (short_low z h.0) (short_low y g.0) r.0) (one_list x l w k h.1 g.1 r.1)
 
 -- ---- inputs

@@ -32,8 +32,8 @@ test_at p b h = record { path = path_at p b h; end = end_at p b h; input = h }
 abbrev pub trace_text : Program → Limits → Input → List ℕ
 trace_text p b h = bounds_line b ++ (event_lines p.line 1 (run_of p b h).log ++ item_line (test_item (test_at p b h)))
 
--- the run's lines can be read again: its outcomes have bytes, the line of its end has 32 bits, those of its events 64, and there are
--- no more events than the bound allows
+-- the run's lines can be read again: its outcomes have bytes, the line of its end has 32 bits, those of its events
+-- 64, and there are no more events than the bound allows
 pub record CanBeTold (p : Program) (b : Limits) (h : Input) : Type 0 where
   pub bytes : All HasByte (path_at p b h)
   pub end : HasLine (end_at p b h)

@@ -6,8 +6,8 @@ use Rattle.cc_model.specs.Listing.{Item}
 use Rattle.cc_model.specs.Report.{newline, bounds_line, item_lines, term_lines}
 use Rattle.cc_model.specs.Tested.{Term}
 
--- the bounds, the items, the terms, and the numbers of the last line: how many runs were made, and how many outcomes of decisions
--- they took, of how many
+-- the bounds, the items, the terms, and the numbers of the last line: how many runs were made, and how many outcomes
+-- of decisions they took, of how many
 pub record Walk : Type 0 where
   pub bounds : Limits
   pub items : List Item

@@ -1,5 +1,5 @@
 -- What is asked of listings, walks and traces so that their reports can be read again word by word.
-use Rattle.std.specs.Prelude.{ℕ, ◌^◌, ◌<◌, All}
+use Rattle.std.specs.Prelude.{◌^◌, ◌<◌, All}
 use Rattle.cc_base.specs.declared.inputs.Input.{Input}
 use Rattle.cc_base.specs.declared.inputs.Test.{Test}
 use Rattle.cc_base.specs.Limits.{Limits}

@@ -20,6 +20,6 @@ pub fn a_report_is_of_one_listing()
 /// have 64 bits.
 pub fn a_readable_listing_has_words()
     ensures { (bytes entry : List ℕ) (p : Program) (after : Option Path) (l : Listing) → IsProgram bytes entry p
-        → AreBounds l.bounds → Sound after (tested p l.bounds) l.items → ((x : Item) → In x l.items → CanBeRead x)
-        → HasNarrowLines l → HasWords l }
+        → AreBounds l.bounds → Sound after (tested p l.bounds) l.items
+        → ((x : Item) → In x l.items → CanBeRead x) → HasNarrowLines l → HasWords l }
 {}
