@@ -1,0 +1,7 @@
+pub mod Values
+pub mod Joined
+pub mod LineWords
+pub mod Lines
+pub mod Reports
+pub mod Readable
+pub mod Beginnings
