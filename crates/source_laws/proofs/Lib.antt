@@ -1,1 +1,3 @@
 pub mod SameTrees
+pub mod SameTraces
+pub mod SameInputs
