@@ -1,3 +1,5 @@
 pub mod SameTrees
 pub mod SameTraces
 pub mod SameInputs
+pub mod SameRuns
+pub mod SameLayers

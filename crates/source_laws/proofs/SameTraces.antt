@@ -170,7 +170,7 @@ module _ (r : ℕ → ℕ) where
     test_same (place p t) = refl
     test_same none = refl
 
-    cells_same : (n : ℕ) (cs : List Cell) → on.cell_shadows f n (map (renumber_cell r) cs) ≡ map renumber_shadow (on.cell_shadows f n cs)
+    pub cells_same : (n : ℕ) (cs : List Cell) → on.cell_shadows f n (map (renumber_cell r) cs) ≡ map renumber_shadow (on.cell_shadows f n cs)
     unfolding on.cell_shadows
     cells_same n [] = refl
     cells_same n (int_cell ∷ cs) = ap (λ l. form (f.of n) ∷ l) (cells_same (suc n) cs)
