@@ -3,3 +3,4 @@ pub mod SameTraces
 pub mod SameInputs
 pub mod SameRuns
 pub mod SameLayers
+pub mod SameBodies
