@@ -4,3 +4,4 @@ pub mod SameInputs
 pub mod SameRuns
 pub mod SameLayers
 pub mod SameBodies
+pub mod TypeNumbers
