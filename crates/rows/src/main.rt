@@ -22,6 +22,7 @@
 //! fail write N K      write N of the report fails, and keeps K bytes
 //! fail error N K      write N of the error text fails, and keeps K bytes
 //! keep NAME           the report becomes a file for the rows up to the next heading
+//! cut NAME A B        a row for each first part of the file, of A to B bytes, which stands in its place
 //! ```
 //!
 //! The lines of a text are joined by newlines, so one that ends in a newline has an empty last line. A row ends at an
