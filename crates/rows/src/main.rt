@@ -28,6 +28,7 @@
 //! The lines of a text are joined by newlines, so one that ends in a newline has an empty last line. A row ends at an
 //! empty line. In what it wants `?` stands for a number and `*` for the rest of a line; a line that ends in `\` has no
 //! newline, and behind a line `...` any lines may come. Where it says nothing, nothing is written, and the status is 0.
+//! No call of a row with `cut` fails.
 #![tactic(auto)]
 
 mod directive;
