@@ -42,6 +42,8 @@ pub(crate) enum RowLine<'a> {
     Fail(Call),
     /// The file that its report becomes.
     Keep(&'a str),
+    /// The file whose first parts it is run with, and the least and the greatest length of those.
+    Cut(&'a str, usize, usize),
 }
 
 /// A call that fails: its number, from 1, and how many bytes of a write stand.
@@ -77,6 +79,7 @@ fn read_row_line<'a>(mark: &str, rest: &'a str) -> Option<RowLine<'a>> {
         "=" => Some(RowLine::Status(read_status(rest)?)),
         "fail" => Some(RowLine::Fail(read_call(rest)?)),
         "keep" => Some(RowLine::Keep(rest)),
+        "cut" => read_cut(rest),
         _ => None,
     }
 }
@@ -101,6 +104,17 @@ fn read_status(rest: &str) -> Option<Status> {
         return Some(Status::Run);
     }
     Some(Status::Is(rest.parse::<u8>().ok()?))
+}
+
+/// A file that is cut, and where.
+fn read_cut(rest: &str) -> Option<RowLine<'_>> {
+    let (name, lengths) = rest.split_once(' ')?;
+    let (least, greatest) = lengths.split_once(' ')?;
+    Some(RowLine::Cut(
+        name,
+        least.parse::<usize>().ok()?,
+        greatest.parse::<usize>().ok()?,
+    ))
 }
 
 /// A call that is to fail.

@@ -22,11 +22,13 @@
 //! fail write N K      write N of the report fails, and keeps K bytes
 //! fail error N K      write N of the error text fails, and keeps K bytes
 //! keep NAME           the report becomes a file for the rows up to the next heading
+//! cut NAME A B        a row for each first part of the file, of A to B bytes, which stands in its place
 //! ```
 //!
 //! The lines of a text are joined by newlines, so one that ends in a newline has an empty last line. A row ends at an
 //! empty line. In what it wants `?` stands for a number and `*` for the rest of a line; a line that ends in `\` has no
 //! newline, and behind a line `...` any lines may come. Where it says nothing, nothing is written, and the status is 0.
+//! No call of a row with `cut` fails.
 #![tactic(auto)]
 
 mod directive;

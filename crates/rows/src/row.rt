@@ -10,6 +10,15 @@ use std::alloc::Global;
 use std::fmt;
 use std::fmt::Write;
 
+/// The first parts of a file with which a row is run: its name and its bytes, and their least and greatest length.
+#[derive(Drop)]
+pub(crate) struct Cut {
+    pub(crate) name: String,
+    pub(crate) bytes: String,
+    pub(crate) least: usize,
+    pub(crate) greatest: usize,
+}
+
 /// A row: the line that it begins at, and its words as they stand there.
 #[derive(Drop)]
 pub(crate) struct Row {
@@ -24,6 +33,8 @@ pub(crate) struct Row {
     pub(crate) error: Wanted,
     pub(crate) status: Status,
     pub(crate) keep: Option<String>,
+    pub(crate) cut: Option<Cut>,
+    length: Option<usize>,
 }
 
 impl Row {
@@ -52,6 +63,8 @@ impl Row {
             error: Wanted::new(alloc),
             status: Status::Is(0),
             keep: None,
+            cut: None,
+            length: None,
         })
     }
 
@@ -62,6 +75,20 @@ impl Row {
             Call::Write(number, keep) => self.out.fail_at(number, keep),
             Call::Error(number, keep) => self.err.fail_at(number, keep),
         }
+    }
+
+    /// Begins the row anew, with this many bytes of a file.
+    pub(crate) fn cut_to(&mut self, cut: &Cut, length: usize) -> anyhow::Result<()> {
+        let Some(part) = cut.bytes.as_bytes().get(..length) else {
+            bail!("{self}: the file has no {length} bytes");
+        };
+        if self.files.put(cut.name.as_str(), part).is_err() {
+            bail!("no memory");
+        }
+        self.out = MemSink::new(self.alloc);
+        self.err = MemSink::new(self.alloc);
+        self.length = Some(length);
+        Ok(())
     }
 
     /// Runs the row: its status.
@@ -103,6 +130,10 @@ impl Row {
 
 impl fmt::Display for Row {
     fn fmt<W: fmt::Write>(&self, f: &mut fmt::Formatter<W>) -> fmt::Result {
-        write!(f, "line {}: {}", self.line, self.text)
+        write!(f, "line {}: {}", self.line, self.text)?;
+        match self.length {
+            Some(length) => write!(f, ", {length} bytes"),
+            None => Ok(()),
+        }
     }
 }

@@ -1,7 +1,7 @@
 //! A table that is read and run line by line.
 
 use crate::directive::{Directive, RowLine, read_line};
-use crate::row::Row;
+use crate::row::{Cut, Row};
 use crate::texts::Texts;
 use anyhow::bail;
 use std::alloc::Global;
@@ -99,16 +99,34 @@ impl Table {
             RowLine::Status(status) => row.status = status,
             RowLine::Fail(call) => row.fail(call),
             RowLine::Keep(name) => row.keep = Some(String::from_str(self.alloc, name)?),
+            RowLine::Cut(name, least, greatest) => {
+                let Some(bytes) = self.texts.named(name) else {
+                    bail!("line {}: no file {name}", self.lines);
+                };
+                row.cut = Some(Cut {
+                    name: String::from_str(self.alloc, name)?,
+                    bytes: String::from_str(self.alloc, bytes)?,
+                    least,
+                    greatest,
+                });
+            }
         }
         Ok(())
     }
 
-    /// Ends the row that stands open.
+    /// Ends the row that stands open, which is one for each first part of a file that is cut.
     fn end_row(&mut self) -> anyhow::Result<()> {
         let Some(mut row) = self.row.take() else {
             return Ok(());
         };
-        self.run_row(&mut row)
+        let Some(cut) = row.cut.take() else {
+            return self.run_row(&mut row);
+        };
+        for length in cut.least..=cut.greatest {
+            row.cut_to(&cut, length)?;
+            self.run_row(&mut row)?;
+        }
+        Ok(())
     }
 
     /// Runs a row, and tells where it differs.
