@@ -5,3 +5,5 @@ pub mod SameRuns
 pub mod SameLayers
 pub mod SameBodies
 pub mod TypeNumbers
+pub mod Numberings
+pub mod OneSource

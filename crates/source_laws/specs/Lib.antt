@@ -1,3 +1,4 @@
 pub mod Renumbering
 pub mod SameProgram
 pub mod Settled
+pub mod OneSource
