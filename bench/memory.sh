@@ -1,10 +1,11 @@
 #!/usr/bin/env bash
-# Refuses memory to the program as ./tevgoral --proved builds it, or to the one that PROGRAM names: each call below is made
-# with its Nth allocation refused, for each N until none is refused; first with that one alone, then with all behind it too.
-# The answer has to be `no memory` and the status 7, and the output the first lines of the report with ample memory. There
-# are two more: where the words get no memory, nothing is said; and where one allocation alone is refused, the whole answer
-# may come, since a list that is refused the room for all that may follow asks for less. Tells how many allocations were
-# refused, and each answer that is another, with which it ends as 1. No part of the gate. Wants gcc and glibc.
+# Refuses memory to the program as ./tevgoral --proved builds it, or to the one that PROGRAM names: each call below is
+# made with its Nth allocation refused, for each N until none is refused; first with that one alone, then with all
+# behind it too. The answer has to be `no memory` and the status 7, and the output the first lines of the report with
+# ample memory. There are two more: where the words get no memory, nothing is said; and where one allocation alone is
+# refused, the whole answer may come, since a list that is refused the room for all that may follow asks for less.
+# Tells how many allocations were refused, and each answer that is another, with which it ends as 1. No part of the
+# gate. Wants gcc and glibc.
 source "$(dirname "$0")/common.sh"
 take_program
 gcc -O2 -Wall -Wextra -shared -fPIC -o "$room/refuse.so" "$top/bench/memory/refuse.c"
@@ -55,7 +56,8 @@ refuse() {
             judge
             lengths[${#out}]=
         done
-        printf '%-8s %-8s %7d %10d %7d %7d %8d\n' "$name" "$how" $((n - 1)) "$refusals" "$silent" "$whole" "${#lengths[@]}"
+        printf '%-8s %-8s %7d %10d %7d %7d %8d\n' \
+            "$name" "$how" $((n - 1)) "$refusals" "$silent" "$whole" "${#lengths[@]}"
     done
 }
 

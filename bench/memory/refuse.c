@@ -1,5 +1,5 @@
-// Refuses memory to the program that it is loaded into (LD_PRELOAD): its allocation number REFUSE, from 1, gets none, and
-// where REFUSE_ON is set neither do those behind it. Each refusal is a byte on the descriptor 3.
+// Refuses memory to the program that it is loaded into (LD_PRELOAD): its allocation number REFUSE, from 1, gets none,
+// and where REFUSE_ON is set neither do those behind it. Each refusal is a byte on the descriptor 3.
 #include <errno.h>
 #include <stdlib.h>
 #include <unistd.h>
