@@ -44,7 +44,7 @@ pub record BothNumbered (old new : List Ty) (ns : List TyId) (ts others : List C
   pub more : List TyId
   pub behind : AllNumbered between new more others
 
--- the types of globals and functions and the cells of types by their numbers, where the table held the old entries before
+-- the types of globals and functions and the cells of types by their numbers, put in behind the old entries
 pub record FileNumbered (file : File) (globals : List Variable) (locals : List (List CType)) (old : List Ty) (n : Numbering) : Type 0 where
   pub behind_globals : List Ty
   pub behind_functions : List Ty

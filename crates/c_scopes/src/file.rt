@@ -137,7 +137,8 @@ impl TypeNames<'_> {
     /// What items declare.
     fn gather_all(&self, items: &[Item]) -> Result<Gathered, NoMemory>
         ensures bodies { IfOk result (λ g. g.bodies ≡ (scopes.after_items
-            (text_at self.now.source.now self.now.tokens.now) self.now.tags.now scopes.nothing_before items.now).bodies) }
+            (text_at self.now.source.now self.now.tokens.now) self.now.tags.now scopes.nothing_before
+            items.now).bodies) }
         ensures structs { IfOk result (λ g. g.structs ≡ scopes.structs_in
             (text_at self.now.source.now self.now.tokens.now) self.now.tags.now scopes.nothing_before items.now) }
         ensures functions { IfOk result (λ g. g.functions ≡ scopes.functions_in
