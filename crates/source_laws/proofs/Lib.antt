@@ -7,3 +7,4 @@ pub mod SameBodies
 pub mod TypeNumbers
 pub mod Numberings
 pub mod OneSource
+pub mod Spans
