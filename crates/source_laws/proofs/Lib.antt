@@ -8,3 +8,4 @@ pub mod TypeNumbers
 pub mod Numberings
 pub mod OneSource
 pub mod Spans
+pub mod SpansBodies
