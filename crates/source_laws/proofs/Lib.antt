@@ -7,3 +7,5 @@ pub mod SameBodies
 pub mod TypeNumbers
 pub mod Numberings
 pub mod OneSource
+pub mod Spans
+pub mod SpansBodies

@@ -1,7 +1,7 @@
 -- Two checked programs of the same trees differ by the numbers of types alone.
-use Rattle.std.proofs.Common.{◌≡◌, ℕ, zero, suc, ◌+◌, ◌<◌, ◌≤◌, ◌⊎◌, inl, inr, Bool, true, false, ℤ, List, [], ◌∷◌, ◌++◌, map, flat_map, length, take, Option, Some, None, slice_get, unwrap_or, option_map, option_and_then, position, nat_eq, refl, sym, ap, ap₂, subst, ◌∙◌, arith, length-append, if◌then◌else◌}
-use Rattle.std.proofs.lemmas.List.{length-map, map-append}
-use Rattle.std.proofs.lemmas.Option.{slice_get-map, slice_get_within, slice_get_past}
+use Rattle.std.proofs.Common.{◌≡◌, ℕ, zero, suc, ◌+◌, ◌<◌, ◌≤◌, ◌⊎◌, inl, inr, List, [], ◌∷◌, ◌++◌, map, flat_map, length, take, Option, Some, None, slice_get, unwrap_or, option_map, option_and_then, position, nat_eq, refl, sym, ap, ap₂, subst, ◌∙◌, arith, length-append, if◌then◌else◌}
+use Rattle.std.proofs.lemmas.List.{length-map}
+use Rattle.std.proofs.lemmas.Option.{slice_get-map, slice_get_past}
 use Rattle.cc_base.specs.declared.cells.TyId.{TyId}
 use Rattle.cc_base.specs.declared.cells.CellTy.{CellTy}
 use Rattle.cc_base.specs.declared.cells.CellTy.TheVariants as cell
@@ -13,7 +13,6 @@ use Rattle.cc_model.specs.declared.checked.Target.TheVariants as target
 use Rattle.cc_model.specs.declared.checked.Sig.{Sig}
 use Rattle.cc_model.specs.declared.checked.Checked.{Checked}
 use Rattle.cc_model.specs.declared.typing.Function.{Function}
-use Rattle.cc_model.specs.declared.typing.File.{File}
 use Rattle.cc_model.specs.declared.trees.Func as source_func
 use Rattle.cc_model.specs.declared.trees.StartValue.{StartValue}
 use Rattle.cc_model.specs.declared.trees.StartValue.TheVariants as start_value
@@ -21,15 +20,15 @@ use Rattle.cc_model.specs.declared.trees.GlobalStart.{GlobalStart}
 use Rattle.cc_model.specs.declared.trees.GlobalPart.{GlobalPart}
 use Rattle.cc_model.specs.declared.trees.Item.{Item}
 use Rattle.cc_model.specs.declared.trees.Item.TheVariants as item
-use Rattle.cc_model.specs.Core.{Cell, int_cell, ptr_cell, Func}
+use Rattle.cc_model.specs.Core.{Cell, int_cell, ptr_cell}
 use Rattle.cc_model.specs.Resolve.{first_cell}
 use Rattle.cc_model.specs.Scopes.{Text, file_of}
 use Rattle.cc_model.specs.Types.{TypeCell, number_cell, pointer_cell}
 use Rattle.cc_model.specs.Faults.{notes_in}
-use Rattle.cc_model.specs.CheckedProgram.{meant, expression_tokens, expression_types, Denotes, AllDenote, layout_of, AreCells, globals_in, IsSig, AreSigs, IsChecked, cell_of, flat, target_id, array_length, element_id, is_void_ty, cells_at, layout_at, name_at, expression_type, cells_of_all, slot_layout, result_cell, sig_named, facts_in, is_func, body_in, func_if, funcs_from, started, start_of, starts_of, global_parts, core_of}
+use Rattle.cc_model.specs.CheckedProgram.{expression_tokens, expression_types, Denotes, AllDenote, layout_of, AreCells, IsSig, AreSigs, IsChecked, cell_of, flat, target_id, array_length, element_id, is_void_ty, cells_at, layout_at, name_at, expression_type, cells_of_all, slot_layout, result_cell, sig_named, facts_in, is_func, body_in, func_if, funcs_from, started, start_of, starts_of, global_parts, core_of}
 use Rattle.source_laws.specs.Renumbering.{renumber_cell, renumber_layout, renumber_func, Renumbers}
-use Rattle.source_laws.specs.Settled.{Due, makes, indexes, declares, func_dues, IsPointer, IsArray, HasSlot, IsPaid, ArePaid, IsSettled}
-use Rattle.source_laws.proofs.TypeNumbers.{renumber_id, renumber_entry, same_id, same_ids, number_of, moved, past, one_to_one, entry_same}
+use Rattle.source_laws.specs.Settled.{Due, func_dues, IsPointer, IsArray, HasSlot, IsPaid, ArePaid, IsSettled}
+use Rattle.source_laws.proofs.TypeNumbers.{renumber_entry, same_ids, number_of, moved, past, one_to_one, entry_same}
 use Rattle.source_laws.proofs.SameBodies.{SameFacts, func_same}
 use Rattle.cc_laws.proofs.StructCells.{Every}
 

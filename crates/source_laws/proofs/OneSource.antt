@@ -1,10 +1,10 @@
 -- Two programs of one source are the same program.
-use Rattle.std.proofs.Common.{◌≡◌, ℕ, Bool, List, Result, Ok, refl, sym, ap, subst, ◌∙◌}
+use Rattle.std.proofs.Common.{◌≡◌, ℕ, Bool, List, Result, Ok, sym, subst}
 use Rattle.cc_model.specs.declared.tokens.Token.{Token}
 use Rattle.cc_model.specs.declared.checked.Checked.{Checked}
 use Rattle.cc_model.specs.declared.trees.Program as source
 use Rattle.cc_model.specs.Core.{Program}
-use Rattle.cc_model.specs.Lexical.{tokens_of, LexicalFault}
+use Rattle.cc_model.specs.Lexical.{tokens_of}
 use Rattle.cc_model.specs.Reads.{Reads, Accepts}
 use Rattle.cc_model.specs.Spots.{shallow}
 use Rattle.cc_model.specs.Scopes.{Text}

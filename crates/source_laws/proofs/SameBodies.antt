@@ -17,11 +17,10 @@ use Rattle.cc_model.specs.declared.trees.Stmt.{Row_of-Part, more_of-Part, end_of
 use Rattle.cc_model.specs.declared.trees.Stmt.TheVariants as stmt
 use Rattle.cc_model.specs.declared.trees.Part.{Part}
 use Rattle.cc_model.specs.declared.trees.Part.TheVariants as part
-use Rattle.cc_model.specs.declared.trees.Part.TheOpen as levels
 use Rattle.cc_model.specs.declared.trees.Func as source_func
 use Rattle.cc_model.specs.Core as core
 use Rattle.cc_model.specs.Core.{Cell, Layout, Func, Vals, Declarator, Parts}
-use Rattle.cc_model.specs.Resolve.{Facts, Read, Piece, declares, does, by_truth, by_value, by_place, vals_of, number_or_null, function_named, offset_named, slot_named, first_cell, variable_named, expr_level, resolve, simple_of, declarator_of, start_value, value_if, truth_if, simple_if, head_simple, head_declarators, part_level, stmt_level, declared_before, parts_of, piece_of, body_of, param_of, func_of}
+use Rattle.cc_model.specs.Resolve.{Facts, Read, Piece, declares, does, by_value, by_place, vals_of, number_or_null, function_named, offset_named, slot_named, first_cell, variable_named, expr_level, resolve, simple_of, declarator_of, start_value, value_if, truth_if, simple_if, head_simple, head_declarators, part_level, stmt_level, declared_before, parts_of, piece_of, body_of, param_of, func_of}
 use Rattle.cc_model.specs.CheckedProgram.{expression_if, simple_expressions, simple_expressions_if, start_expression}
 use Rattle.cc_model.proofs.Folds.{fold_of, fold_of_row, folds, fold_of_stmt, fold_of_part, fold_of_parts, folds_part}
 use Rattle.cc_laws.proofs.StructCells.{Every}
@@ -218,9 +217,9 @@ module _ (r : ℕ → ℕ) (IsDue : Due → Type 0) (facts other : Facts) (same 
         let m2 = back two (three ++ Ds a) m1 in
         ap₂ (λ x y. core.loop_for x y (truth_if other e) (simple_if other next) (fold_of_stmt (part_level other) (stmt_level other) a)) (head_first h m0) (head_declared h m0)
         ∙ ap₂ (λ x y. core.loop_for (if_there r (renumber_simple r) (head_simple facts h)) (map (renumber_declarator r) (head_declarators facts h)) x y (fold_of_stmt (part_level other) (stmt_level other) a))
-            (truth_if_same e (front two (three ++ Ds a) m1)) (simple_if_same next (front three (Ds a) m2))
+        (truth_if_same e (front two (three ++ Ds a) m1)) (simple_if_same next (front three (Ds a) m2))
         ∙ ap (core.loop_for (if_there r (renumber_simple r) (head_simple facts h)) (map (renumber_declarator r) (head_declarators facts h)) (if_there r (renumber_cond r) (truth_if facts e)) (if_there r (renumber_simple r) (simple_if facts next)))
-            (stmt_same a (back three (Ds a) m2))
+        (stmt_same a (back three (Ds a) m2))
     stmt_same (stmt.Return w e) m = ap core.return (value_if_same e m)
     stmt_same (stmt.Break w) m = refl
     stmt_same (stmt.Continue w) m = refl

@@ -1,11 +1,10 @@
 -- The inputs of a renumbered program are those of the program, and so is the memory with which a run begins.
-use Rattle.std.proofs.Common.{◌≡◌, ℕ, zero, suc, ◌+◌, ℤ, pos, negsuc, Bool, true, false, ◌⊎◌, inl, inr, List, [], ◌∷◌, ◌++◌, map, length, Option, Some, None, slice_get, option_map, nat_eq, refl, sym, ap, ap₂, subst, ◌∙◌, if◌then◌else◌}
+use Rattle.std.proofs.Common.{◌≡◌, ℕ, zero, suc, ◌+◌, ℤ, pos, negsuc, Bool, true, false, inl, inr, List, [], ◌∷◌, ◌++◌, map, length, Option, Some, None, slice_get, option_map, nat_eq, refl, sym, ap, ap₂, subst, ◌∙◌, if◌then◌else◌}
 use Rattle.std.proofs.lemmas.List.{length-map, map-append}
 use Rattle.std.proofs.lemmas.Option.{slice_get-map}
 use Rattle.cc_base.specs.Limits.{Limits, base_of}
-use Rattle.cc_base.specs.Paths.{In}
 use Rattle.cc_model.specs.Core.{Cell, int_cell, ptr_cell, Layout, Func, Program}
-use Rattle.cc_model.specs.Canonical.{Named, NamesOld, AreCells, base_cell, Within}
+use Rattle.cc_model.specs.Canonical.{Named, NamesOld, AreCells, base_cell}
 use Rattle.cc_model.specs.Plain as base
 use Rattle.cc_model.specs.Plain.{Value, Scan, Data}
 use Rattle.cc_model.specs.Runs.{params_of, params_of_func}
@@ -45,8 +44,11 @@ module _ (r : ℕ → ℕ) where
       cells_to (z ∷ zs) [] named next h = h
       cells_to (z ∷ zs) (int_cell ∷ due) named next h = (h.0, cells_to zs due named next h.1)
       cells_to (z ∷ zs) (ptr_cell t ∷ due) named next (inl h) = inl (old_to named t z h.0, cells_to zs due named next h.1)
-      cells_to (z ∷ zs) (ptr_cell t ∷ due) named next (inr h) = inr (h.0, subst (λ x. x) (behind t due named next zs)
-          (cells_to zs (due ++ layouts t) (record { address = next; type = t } ∷ named) (next + length (layouts t)) h.1))
+      cells_to (z ∷ zs) (ptr_cell t ∷ due) named next (inr h) = inr (
+        h.0,
+        subst (λ x. x) (behind t due named next zs)
+            (cells_to zs (due ++ layouts t) (record { address = next; type = t } ∷ named) (next + length (layouts t)) h.1),
+      )
 
       pub cells_from : (zs : List ℤ) (due : List Cell) (named : List Named) (next : ℕ) → AreCells other b (cells due) (map renumber_named named) next zs → AreCells layouts b due named next zs
       cells_from [] [] named next h = h
@@ -54,8 +56,11 @@ module _ (r : ℕ → ℕ) where
       cells_from (z ∷ zs) [] named next h = h
       cells_from (z ∷ zs) (int_cell ∷ due) named next h = (h.0, cells_from zs due named next h.1)
       cells_from (z ∷ zs) (ptr_cell t ∷ due) named next (inl h) = inl (old_from named t z h.0, cells_from zs due named next h.1)
-      cells_from (z ∷ zs) (ptr_cell t ∷ due) named next (inr h) = inr (h.0, cells_from zs (due ++ layouts t) (record { address = next; type = t } ∷ named) (next + length (layouts t))
-          (subst (λ x. x) (sym (behind t due named next zs)) h.1))
+      cells_from (z ∷ zs) (ptr_cell t ∷ due) named next (inr h) = inr (
+        h.0,
+        cells_from zs (due ++ layouts t) (record { address = next; type = t } ∷ named) (next + length (layouts t))
+            (subst (λ x. x) (sym (behind t due named next zs)) h.1),
+      )
 
     -- ---- the memory
 
@@ -91,8 +96,10 @@ module _ (r : ℕ → ℕ) where
     scan_same (negsuc n ∷ zs) (ptr_cell t ∷ due) next = ap₂ (λ v s. record { values = v ∷ s.values; found = s.found }) (value_same (ptr_cell t) (negsuc n)) (scan_same zs due next)
     scan_same (pos n ∷ zs) (ptr_cell t ∷ due) next = if_scan (nat_eq n next) _ _ _ _
         (ap₂ (λ v s. record { values = v ∷ s.values; found = record { type = next; cells = other (r t) } ∷ s.found }) (value_same (ptr_cell t) (pos n)) (new_same zs t due next _ (scan_same zs (due ++ layouts t) (next + length (layouts t))))
-        ∙ ap (λ l. record { values = base.value_at (ptr_cell t) (pos n) ∷ (base.scan layouts zs (due ++ layouts t) (next + length (layouts t))).values;
-            found = record { type = next; cells = l } ∷ map recell (base.scan layouts zs (due ++ layouts t) (next + length (layouts t))).found }) (laid t))
+        ∙ ap (λ l. record {
+          values = base.value_at (ptr_cell t) (pos n) ∷ (base.scan layouts zs (due ++ layouts t) (next + length (layouts t))).values;
+          found = record { type = next; cells = l } ∷ map recell (base.scan layouts zs (due ++ layouts t) (next + length (layouts t))).found;
+        }) (laid t))
         (ap₂ (λ v s. record { values = v ∷ s.values; found = s.found }) (value_same (ptr_cell t) (pos n)) (scan_same zs due next))
 
     blocks_same : (l : List Layout) (vs : List Value) → base.blocks_of (map recell l) vs ≡ base.blocks_of l vs
@@ -105,13 +112,21 @@ module _ (r : ℕ → ℕ) where
     unfolding base.data_of
     data_same params globals zs stream start = let s = base.scan layouts zs params (suc (length params)) in
         ap₂ (λ n s. record {
-            blocks = λ a. base.block_cells a (base.blocks_of s.found (base.back n s.values));
-            made = globals ∷ map (λ v. v ∷ []) (base.front n s.values);
-            touched = []; stream = stream; base = start; count = 0 }) (length-map params (renumber_cell r)) (ap (λ n. base.scan other zs (cells params) (suc n)) (length-map params (renumber_cell r)) ∙ scan_same zs params (suc (length params)))
+          blocks = λ a. base.block_cells a (base.blocks_of s.found (base.back n s.values));
+          made = globals ∷ map (λ v. v ∷ []) (base.front n s.values);
+          touched = [];
+          stream = stream;
+          base = start;
+          count = 0;
+        }) (length-map params (renumber_cell r)) (ap (λ n. base.scan other zs (cells params) (suc n)) (length-map params (renumber_cell r)) ∙ scan_same zs params (suc (length params)))
         ∙ ap (λ l. record {
-            blocks = λ a. base.block_cells a l;
-            made = globals ∷ map (λ v. v ∷ []) (base.front (length params) s.values);
-            touched = []; stream = stream; base = start; count = 0 }) (blocks_same s.found (base.back (length params) s.values))
+          blocks = λ a. base.block_cells a l;
+          made = globals ∷ map (λ v. v ∷ []) (base.front (length params) s.values);
+          touched = [];
+          stream = stream;
+          base = start;
+          count = 0;
+        }) (blocks_same s.found (base.back (length params) s.values))
 
   -- ---- the parameters
 

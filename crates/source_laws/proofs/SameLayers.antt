@@ -1,10 +1,10 @@
 -- What a listing speaks of doesn't hang on what stands at the places.
-use Rattle.std.proofs.Common.{◌≡◌, ◌↔◌, ℕ, zero, suc, ℤ, Bool, List, [], ◌∷◌, ◌++◌, map, length, Option, Some, None, slice_get, option_map, option_and_then, refl, sym, ap, ap₂, subst, ◌∙◌}
+use Rattle.std.proofs.Common.{◌≡◌, ℕ, zero, suc, ℤ, List, [], ◌∷◌, ◌++◌, map, Option, Some, None, slice_get, option_map, option_and_then, refl, sym, ap, ap₂, subst, ◌∙◌}
 use Rattle.std.proofs.lemmas.Option.{slice_get-map}
 use Rattle.cc_base.specs.declared.inputs.Input.{Input}
 use Rattle.cc_base.specs.declared.outcomes.Outcome.{Outcome}
 use Rattle.cc_base.specs.Forms.{Atom}
-use Rattle.cc_base.specs.Holds.{Holds, Meets}
+use Rattle.cc_base.specs.Holds.{Meets}
 use Rattle.cc_base.specs.Limits.{Limits, base_of}
 use Rattle.cc_base.specs.Paths.{Path}
 use Rattle.cc_base.specs.Places.{Place, arg, field, stream, Placed, cell_behind, value_there, value_within, at_place}
@@ -12,13 +12,13 @@ use Rattle.cc_model.specs.declared.checked.SiteKind.{SiteKind}
 use Rattle.cc_model.specs.Core.{Program}
 use Rattle.cc_model.specs.Meaning.{Entry}
 use Rattle.cc_model.specs.Answers.{Answers}
-use Rattle.cc_model.specs.Tested.{Answer, Term, tested}
+use Rattle.cc_model.specs.Tested.{Answer}
 use Rattle.cc_model.specs.FormOperations.{Forms}
-use Rattle.cc_model.specs.Traced.{Asked, asks_nothing, one_of, term, Event, Choice}
+use Rattle.cc_model.specs.Traced.{Asked, asks_nothing, one_of, term, Event}
 use Rattle.cc_model.specs.Conditions.{atoms_of, taken, alternatives, condition, condition_at, last_atoms, alternatives_at, clean, terms, events_of, places_of, values_at, layer}
 use Rattle.sym_expr.proofs.AtomLaws.{Holds-same}
 use Rattle.source_laws.specs.Renumbering.{renumber_placed, renumber_event, renumber_entry, Renumbers}
-use Rattle.source_laws.specs.SameProgram.{SameTested, SameLayer, SameProgram}
+use Rattle.source_laws.specs.SameProgram.{SameLayer, SameProgram}
 use Rattle.source_laws.proofs.SameRuns.{input_to, input_from, base_input_same, run_same, path_same, end_same, events_same, places_same}
 
 module _ (r : ℕ → ℕ) where

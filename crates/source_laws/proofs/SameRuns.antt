@@ -1,5 +1,5 @@
 -- A renumbered program has the runs of the program, and its traced runs, but for what stands at the places.
-use Rattle.std.proofs.Common.{◌≡◌, ℕ, zero, suc, pos, Bool, true, false, inl, inr, List, [], ◌∷◌, ◌++◌, map, length, refl, sym, ap, ap₂, subst, ◌∙◌, nat_eq}
+use Rattle.std.proofs.Common.{◌≡◌, ℕ, suc, pos, inl, inr, List, [], ◌∷◌, ◌++◌, map, length, refl, sym, ap, ap₂, subst, ◌∙◌, nat_eq}
 use Rattle.std.proofs.lemmas.Bool.Decides.{eqb_tells}
 use Rattle.cc_base.specs.declared.inputs.Input.{Input}
 use Rattle.cc_base.specs.Limits.{Limits, base_of}
@@ -47,8 +47,9 @@ module _ (r : ℕ → ℕ) where
     blind_traced : (t u : Layout) (x : Data) → u.cells ≡ cells r t.cells → on.make f t x ≡ on.make f u x
     unfolding on.make
     blind_traced t u x e = ap₂ (λ m l. record {
-        value = record { plain = m.value; shadow = none };
-        after = record { plain = m.after; shadows = record x.shadows { made = (x.shadows).made ++ l ∷ [] } } })
+      value = record { plain = m.value; shadow = none };
+      after = record { plain = m.after; shadows = record x.shadows { made = (x.shadows).made ++ l ∷ [] } };
+    })
         (blind_plain t u x.plain e) (sym (ap (map (on.zero_shadow f)) e ∙ shadows_same t.cells))
 
   module _ (p q : Program) (h : Renumbers r p q) where
@@ -61,14 +62,20 @@ module _ (r : ℕ → ℕ) where
     -- ---- inputs
 
     pub input_to : (b : Limits) (i : Input) → IsInput p b i → IsInput q b i
-    input_to b i k = let e = params_same r p q h in (subst (λ cs. AreCells q.layouts b cs [] (suc (length cs)) i.cells) (sym e)
-        (subst (λ n. AreCells q.layouts b (cells r (params_of p)) [] (suc n) i.cells) (sym (length-map (params_of p) (renumber_cell r)))
-        (cells_to r h.one_to_one p.layouts q.layouts h.layouts b i.cells (params_of p) [] (suc (length (params_of p))) k.0)), k.1)
+    input_to b i k = let e = params_same r p q h in (
+      subst (λ cs. AreCells q.layouts b cs [] (suc (length cs)) i.cells) (sym e)
+          (subst (λ n. AreCells q.layouts b (cells r (params_of p)) [] (suc n) i.cells) (sym (length-map (params_of p) (renumber_cell r)))
+          (cells_to r h.one_to_one p.layouts q.layouts h.layouts b i.cells (params_of p) [] (suc (length (params_of p))) k.0)),
+      k.1,
+    )
 
     pub input_from : (b : Limits) (i : Input) → IsInput q b i → IsInput p b i
-    input_from b i k = let e = params_same r p q h in (cells_from r h.one_to_one p.layouts q.layouts h.layouts b i.cells (params_of p) [] (suc (length (params_of p)))
-        (subst (λ n. AreCells q.layouts b (cells r (params_of p)) [] (suc n) i.cells) (length-map (params_of p) (renumber_cell r))
-        (subst (λ cs. AreCells q.layouts b cs [] (suc (length cs)) i.cells) e k.0)), k.1)
+    input_from b i k = let e = params_same r p q h in (
+      cells_from r h.one_to_one p.layouts q.layouts h.layouts b i.cells (params_of p) [] (suc (length (params_of p)))
+          (subst (λ n. AreCells q.layouts b (cells r (params_of p)) [] (suc n) i.cells) (length-map (params_of p) (renumber_cell r))
+          (subst (λ cs. AreCells q.layouts b cs [] (suc (length cs)) i.cells) e k.0)),
+      k.1,
+    )
 
     pub base_input_same : (b : Limits) → base_input_of b (params_of p) ≡ base_input_of b (params_of q)
     base_input_same b = ap (λ l. record { cells = l; stream = [] }) (sym (ap (map (base_cell b)) (params_same r p q h) ∙ base_same r b (params_of p)))

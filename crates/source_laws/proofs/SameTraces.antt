@@ -5,12 +5,11 @@ use Rattle.std.proofs.lemmas.Option.{slice_get-map}
 use Rattle.cc_base.specs.declared.outcomes.Outcome.{Outcome}
 use Rattle.cc_base.specs.declared.outcomes.Outcome.TheVariants.{Zero, High, Low, Plain, False, True, Object}
 use Rattle.cc_base.specs.declared.cells.CellTy.TheVariants as ty
-use Rattle.cc_base.specs.Forms.{Form, Side, nothing, at as at_place, same, differ}
+use Rattle.cc_base.specs.Forms.{nothing, at as at_place, same, differ}
 use Rattle.cc_base.specs.Places.{Placed, arg, field, stream}
 use Rattle.cc_model.specs.declared.terms.TermKind.TheVariants as kind
-use Rattle.cc_model.specs.Core as tree
 use Rattle.cc_model.specs.Core.{Cell, int_cell, ptr_cell, Layout, Cmp}
-use Rattle.cc_model.specs.Domain.{Act, act_arith, act_divisor, act_negate, act_compare, act_test, act_access, act_index, Acted, Domain}
+use Rattle.cc_model.specs.Domain.{Act, act_arith, act_divisor, act_negate, act_compare, act_test, act_access, act_index, Acted}
 use Rattle.cc_model.specs.Plain as base
 use Rattle.cc_model.specs.Plain.{Value, num, null, at, block, made, or_none}
 use Rattle.cc_model.specs.FormOperations.{Forms}
@@ -244,7 +243,7 @@ module _ (r : ℕ → ℕ) where
       choices_same : (p t : ℕ) (l : List Touched) → on.access_choices p (r t) (map renumber_touched l) ≡ on.access_choices p t l
       unfolding on.access_choices
       choices_same p t l = ap₂ (λ m n. record { outcome = Zero; atoms = same (at_place p) nothing ∷ [] } ∷ (m ++ record { outcome = Object n; atoms = differ (at_place p) nothing ∷ on.differs p (r t) (map renumber_touched l) } ∷ []))
-              (letters_same p t 0 l) (length-map l renumber_touched)
+          (letters_same p t 0 l) (length-map l renumber_touched)
           ∙ ap (λ m. record { outcome = Zero; atoms = same (at_place p) nothing ∷ [] } ∷ (on.letters p t 0 l ++ record { outcome = Object (length l); atoms = differ (at_place p) nothing ∷ m } ∷ [])) (differs_same p t l)
 
       access_same : (s : Shadow) (l : List Touched) → on.access_asked (renumber_shadow s) (map renumber_touched l) ≡ on.access_asked s l
@@ -283,18 +282,12 @@ module _ (r : ℕ → ℕ) where
       reached_same True s l = refl
 
       module _ (layout other : ℕ → List Cell) (laid : (t : ℕ) → other (r t) ≡ map (renumber_cell r) (layout t)) where
-        shadows_laid : (n t : ℕ) → on.cell_shadows f n (other (r t)) ≡ map renumber_shadow (on.cell_shadows f n (layout t))
-        shadows_laid n t = ap (on.cell_shadows f n) (laid t) ∙ cells_same n (layout t)
-
-        fields_laid : (p t : ℕ) → on.field_places p 0 (other (r t)) ≡ map (renumber_placed r) (on.field_places p 0 (layout t))
-        fields_laid p t = ap (on.field_places p 0) (laid t) ∙ fields_same p 0 (layout t)
-
         touch_same : (p t : ℕ) (s : Shadows) → on.touch f other p (r t) (renumber_shadows s) ≡ renumber_shadows (on.touch f layout p t s)
         unfolding on.touch
         touch_same p t s = ap₂ (λ a b. record { made = map (map renumber_shadow) s.made; touched = a; places = b })
-            (ap (λ l. map renumber_touched s.touched ++ record { first = p; type = r t; shadows = l } ∷ []) (ap (λ n. on.cell_shadows f n (other (r t))) (length-map s.places (renumber_placed r)) ∙ shadows_laid (length s.places) t)
+            (ap (λ l. map renumber_touched s.touched ++ record { first = p; type = r t; shadows = l } ∷ []) (ap (λ n. on.cell_shadows f n (other (r t))) (length-map s.places (renumber_placed r)) ∙ ap (on.cell_shadows f (length s.places)) (laid t) ∙ cells_same (length s.places) (layout t))
             ∙ sym (map-append renumber_touched s.touched (record { first = p; type = t; shadows = on.cell_shadows f (length s.places) (layout t) } ∷ [])))
-            (ap (λ l. map (renumber_placed r) s.places ++ l) (fields_laid p t) ∙ sym (map-append (renumber_placed r) s.places (on.field_places p 0 (layout t))))
+            (ap (λ l. map (renumber_placed r) s.places ++ l) (ap (on.field_places p 0) (laid t) ∙ fields_same p 0 (layout t)) ∙ sym (map-append (renumber_placed r) s.places (on.field_places p 0 (layout t))))
 
         if_renumbered : (b : Bool) (s t : Shadows) → renumber_shadows (if b then s else t) ≡ if b then renumber_shadows s else renumber_shadows t
         if_renumbered true s t = refl
@@ -344,11 +337,7 @@ module _ (r : ℕ → ℕ) where
         plain_same (act_index p i n w) = refl
 
         abbrev acted_by : Acted Value base.Data Outcome → Asked → List Placed → Shadow → Shadows → Acted Traced Data Event
-        acted_by b k l s t = record {
-          event = record { outcome = b.event; asked = k; places = l };
-          value = record { plain = b.value; shadow = s };
-          after = record { plain = b.after; shadows = t };
-        }
+        acted_by b k l s t = record { event = record { outcome = b.event; asked = k; places = l }; value = record { plain = b.value; shadow = s }; after = record { plain = b.after; shadows = t } }
 
         abbrev acted_with : Act Traced → Data → Act Value → Acted Traced Data Event
         acted_with a x c = let b = base.act c x.plain in acted_by b (on.asked_of f (renumber_act a) (renumber_data x)) (map (renumber_placed r) (x.shadows).places)

@@ -1,11 +1,10 @@
 -- A renumbered program runs as the program does, over a domain that makes objects by the cells' kinds alone.
-use Rattle.std.proofs.Common.{◌≡◌, ℕ, zero, suc, pos, Bool, true, false, not, List, [], ◌∷◌, map, length, Option, Some, None, slice_get, option_map, refl, sym, ap, ap₂, ◌∙◌}
+use Rattle.std.proofs.Common.{◌≡◌, ℕ, zero, suc, Bool, true, false, List, [], ◌∷◌, map, length, Option, Some, None, slice_get, option_map, refl, sym, ap, ◌∙◌}
 use Rattle.std.proofs.lemmas.List.{length-map}
 use Rattle.std.proofs.lemmas.Option.{slice_get-map}
 use Rattle.cc_base.specs.declared.ends.FaultKind.{FaultKind}
 use Rattle.cc_base.specs.declared.ends.FaultKind.TheVariants.{Null, Assert, Abort}
 use Rattle.cc_base.specs.declared.ends.End.TheVariants.{Fault}
-use Rattle.cc_base.specs.declared.outcomes.Outcome.{Outcome}
 use Rattle.cc_model.specs.declared.checked.SiteKind.{SiteKind}
 use Rattle.cc_model.specs.declared.checked.SiteKind.TheVariants as site
 use Rattle.cc_model.specs.Core as tree

@@ -1,5 +1,5 @@
 -- Programs that are one but for the numbers of their types. All of it is this project's own.
-use Rattle.std.specs.Prelude.{ℕ, ◌≡◌, List, [], ◌∷◌, map, Option, Some, None}
+use Rattle.std.specs.Prelude.{ℕ, ◌≡◌, map, Option, Some, None}
 use Rattle.cc_base.specs.declared.cells.CellTy.{CellTy}
 use Rattle.cc_base.specs.declared.cells.CellTy.TheVariants as ty
 use Rattle.cc_base.specs.Places.{Placed}

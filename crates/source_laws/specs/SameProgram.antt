@@ -1,16 +1,13 @@
 -- When two programs are one for all that is promised of them. The definitions are this project's own.
-use Rattle.std.specs.Prelude.{ℕ, ◌≡◌, ◌↔◌, List, map, slice_get}
+use Rattle.std.specs.Prelude.{ℕ, ◌≡◌, ◌↔◌, map}
 use Rattle.cc_base.specs.declared.inputs.Input.{Input}
-use Rattle.cc_base.specs.declared.outcomes.Outcome.{Outcome}
 use Rattle.cc_base.specs.Limits.{Limits}
 use Rattle.cc_base.specs.Paths.{Path}
 use Rattle.cc_model.specs.Core.{Program}
-use Rattle.cc_model.specs.Canonical.{base_input_of}
-use Rattle.cc_model.specs.Meaning.{State, Ran}
 use Rattle.cc_model.specs.FormOperations.{Forms}
 use Rattle.cc_model.specs.Conditions.{condition, last_atoms, layer, events_of, places_of}
 use Rattle.cc_model.specs.Tested.{Answer, Layer, Tested}
-use Rattle.cc_model.specs.Runs.{IsInput, params_of, run_of, path_at, end_at}
+use Rattle.cc_model.specs.Runs.{IsInput, run_of, path_at, end_at}
 use Rattle.source_laws.specs.Renumbering.{renumber_entry, renumber_placed}
 
 -- the same inputs, and the same path and end of each

@@ -1,6 +1,6 @@
 -- What the tokens of a checked program's bodies owe to its tables: each has the entry that its node is resolved by. All of it is
 -- this project's own.
-use Rattle.std.specs.Prelude.{ℕ, ◌≡◌, ◌<◌, List, [], ◌∷◌, ◌++◌, map, flat_map, length, slice_get, Option, Some, None}
+use Rattle.std.specs.Prelude.{ℕ, ◌≡◌, ◌<◌, List, [], ◌∷◌, ◌++◌, map, flat_map, length, slice_get, Option, Some}
 use Rattle.cc_model.specs.declared.checked.Ty.{Ty}
 use Rattle.cc_model.specs.declared.checked.Ty.TheVariants as ty
 use Rattle.cc_model.specs.declared.checked.Sig.{Sig}
@@ -11,7 +11,6 @@ use Rattle.cc_model.specs.declared.trees.Expr.{Expr}
 use Rattle.cc_model.specs.declared.trees.Expr.TheOpen as expr
 use Rattle.cc_model.specs.declared.trees.Expr.TheOpen.{Expr-F}
 use Rattle.cc_model.specs.declared.trees.Expr.TheFolds.{fold-Expr}
-use Rattle.cc_model.specs.declared.trees.Simple as source_simple
 use Rattle.cc_model.specs.declared.trees.Head.{Head}
 use Rattle.cc_model.specs.declared.trees.Head.TheVariants as head
 use Rattle.cc_model.specs.declared.trees.Declared.{Declared}

@@ -1,8 +1,6 @@
 //! One source is one program, however its types are numbered: laws, each the contract of a function that does nothing.
 #![tactic(auto)]
 
-use c_parse::one_program;
-
 ghost use Rattle.std.specs.Prelude.{◌≡◌, ℕ, List};
 ghost use Rattle.cc_model.specs.declared.tokens.Token.{Token};
 ghost use Rattle.cc_model.specs.declared.checked.Checked.{Checked};
@@ -14,6 +12,8 @@ ghost use Rattle.source_laws.specs.Renumbering.{Renumbers};
 ghost use Rattle.source_laws.specs.SameProgram.{SameProgram};
 ghost use Rattle.source_laws.specs.Settled.{IsSettled};
 ghost use Rattle.source_laws.specs.OneSource.{SettlesAll};
+
+use c_parse::one_program;
 
 /// A program whose types have other numbers is the same program.
 pub fn numbers_of_types_say_nothing()
