@@ -11,13 +11,15 @@ use Rattle.cc_model.specs.Report.{newline, total, has_fault, is_fault}
 use Rattle.cc_model.specs.Runs.{end_at}
 use Rattle.cc_outside.specs.Faults.{Rose}
 use Rattle.input_map.specs.declared.faults.MapFault.{MapFault}
+use Rattle.concolic_cli.specs.declared.answers.Refused.{Refused}
 use Rattle.concolic_cli.specs.declared.refusal.Refusal.{Refusal}
 use Rattle.concolic_cli.specs.declared.refusal.Refusal.TheVariants as refusal
-use Rattle.concolic_cli.specs.Concolic.{Call, Answered, bad, done, refused, made, unmade, SourceIsRefused, FileFault, NamesFile, its_source, its_tests, FileIsRefused, tests_of, names_of, no_names, made_names}
+use Rattle.concolic_cli.specs.Concolic.{Call, IsDone, done, made, IsUndone, bad, refused, unmade, Answered, quietly, aloud, SourceIsRefused, FileFault, NamesFile, its_source, its_tests, FileIsRefused, tests_of, names_of, made_names}
 use Rattle.concolic_cli.specs.Made.{made_source, made_entry}
+use Rattle.concolic_cli.specs.Named.{names_in}
 use Rattle.concolic_cli.specs.Refusals.{Names, bad_word_text, file_text, map_text_of, Says, IsAnswered}
 use Rattle.concolic_cli.specs.Loaded.{source_limit, tests_limit, ReadAs}
-use Rattle.concolic_cli.specs.Session.{Wrote, WroteFirst, Stands, nothing, Cause, TestsRefused, SourceCause, WroteLast, WroteLastFirst, LastStands, no_line, MadeCause}
+use Rattle.concolic_cli.specs.Session.{Seen, Wrote, WroteFirst, Stands, nothing, Cause, TestsRefused, SourceCause, WroteLast, WroteLastFirst, LastStands, no_line, MadeCause}
 use Rattle.concolic_cli.specs.Sources.{Refuses}
 use Rattle.cc_outside.specs.Held.{Held}
 use Rattle.replay.specs.ReplayText.{Written, all_real, one_real, one_differs}
@@ -92,30 +94,32 @@ apart n (inr (inr (inr (inl e)))) l h = omega (arith, e, h)
 apart n (inr (inr (inr (inr (inl e))))) l h = omega (arith, e, h)
 apart n (inr (inr (inr (inr (inr e))))) l h = e
 
--- ---- the three ways
+-- ---- what is done, and what is refused
 
-pub bad_call : (call : Call) (status n : ℕ) → BadWord call.words n → (call.seen).out_new ≡ (call.seen).out_old →
-    IsAnswered call.err_old call.err_new call.err_faults_old call.err_faults_new no_names (refusal.BadWord n) status → Answered call status
-bad_call call status n b silent (inl h) = bad n b h.0 silent h.1
-bad_call call status n b silent (inr h) = absurd (cc h.0)
+module _ (words : List (List ℕ)) (seen : Seen) where
+  pub done_for : (status : ℕ) (told task : Task) → told ≡ task → Asks words task → Wrote seen.held seen.out_old seen.out_new told status → IsDone words seen status
+  done_for status told task e a w = done task a (subst (λ k. Wrote seen.held seen.out_old seen.out_new k status) e w)
 
-pub done_call : (call : Call) (status : ℕ) (told task : Task) → told ≡ task → Asks call.words task →
-    Wrote (call.seen).held (call.seen).out_old (call.seen).out_new told status → call.err_new ≡ call.err_old → Answered call status
-done_call call status told task e a w quiet = done task a (subst (λ k. Wrote (call.seen).held (call.seen).out_old (call.seen).out_new k status) e w) quiet
+  -- a refusal that comes with its words
+  same_refusal : (r : Refused) (why : Refusal) → r.refusal ≡ why → IsUndone words seen (names_in r.named) why → IsUndone words seen (names_in r.named) r.refusal
+  same_refusal r why is u = subst (λ e. IsUndone words seen (names_in r.named) e) (sym is) u
 
-pub refused_call : (call : Call) (status : ℕ) (why : Refusal) (told task : Task) → told ≡ task → Asks call.words task → Cause call.seen told why → (names : Names) → names ≡ names_of told →
-    IsAnswered call.err_old call.err_new call.err_faults_old call.err_faults_new names why status → Answered call status
-refused_call call status why told task e a cause names same answered =
-    refused task why a (subst (λ k. Cause call.seen k why) e cause)
-    (subst (λ n. IsAnswered call.err_old call.err_new call.err_faults_old call.err_faults_new n why status) (same ∙ ap names_of e) answered)
+  pub bad_as : (n : ℕ) → BadWord words n → seen.out_new ≡ seen.out_old → (r : Refused) → r.refusal ≡ refusal.BadWord n → IsUndone words seen (names_in r.named) r.refusal
+  bad_as n b silent r is = same_refusal r (refusal.BadWord n) is (bad n b silent)
 
-pub made_call : (call : Call) (status n : ℕ) → Accepted call.words (Make n) → (status ≡ 0) × WroteLast n (call.seen).out_old (call.seen).out_new → call.err_new ≡ call.err_old → Answered call status
-made_call call status n a w quiet = made n a w.1 w.0 quiet
+  pub refused_for : (why : Refusal) (told task : Task) → told ≡ task → Asks words task → Cause seen told why → (names : Names) → names ≡ names_of told → IsUndone words seen names why
+  refused_for why told task e a cause names same = refused task why a (subst (λ k. Cause seen k why) e cause) (same ∙ ap names_of e)
 
-pub unmade_call : (call : Call) (status n : ℕ) (why : Refusal) → Accepted call.words (Make n) → MadeCause n (call.seen).out_old (call.seen).out_new (call.seen).faults_old (call.seen).faults_new why →
-    (names : Names) → names ≡ made_names → IsAnswered call.err_old call.err_new call.err_faults_old call.err_faults_new names why status → Answered call status
-unmade_call call status n why a cause names same answered =
-    unmade n why a cause (subst (λ m. IsAnswered call.err_old call.err_new call.err_faults_old call.err_faults_new m why status) same answered)
+  pub refused_as : (why : Refusal) (told task : Task) → told ≡ task → Asks words task → Cause seen told why → (r : Refused) → r.refusal ≡ why → names_in r.named ≡ names_of told →
+      IsUndone words seen (names_in r.named) r.refusal
+  refused_as why told task e a cause r is same = same_refusal r why is (refused_for why told task e a cause (names_in r.named) same)
+
+  pub made_for : (status n : ℕ) → Accepted words (Make n) → (status ≡ 0) × WroteLast n seen.out_old seen.out_new → IsDone words seen status
+  made_for status n a w = made n a w.1 w.0
+
+  pub unmade_as : (n : ℕ) (why : Refusal) → Accepted words (Make n) → MadeCause n seen.out_old seen.out_new seen.faults_old seen.faults_new why → (r : Refused) → r.refusal ≡ why →
+      names_in r.named ≡ made_names → IsUndone words seen (names_in r.named) r.refusal
+  unmade_as n why a cause r is same = same_refusal r why is (unmade n why a cause same)
 
 -- ---- by status
 
@@ -237,12 +241,19 @@ module _ (call : Call) (status n : ℕ) where
   make_ending refusal.TestsFailed c h = absurd c
   make_ending (refusal.Tests l) c h = absurd c
 
+abbrev AnswersAs : Call → ℕ → Refusal → Names → Type 0
+AnswersAs call status why names = IsAnswered call.err_old call.err_new call.err_faults_old call.err_faults_new names why status
+
+undone_ending : (call : Call) (status : ℕ) (names : Names) (why : Refusal) → IsUndone call.words call.seen names why → AnswersAs call status why names → Ending call status
+undone_ending call status names _ (bad n b silent) (inl h) = at_words n b h.0 silent h.1
+undone_ending call status names _ (bad n b silent) (inr h) = absurd (cc h.0)
+undone_ending call status names why (refused task _ a c same) h = ending_of call status task a why c (subst (λ n. AnswersAs call status why n) same h)
+undone_ending call status names why (unmade n _ a c same) h = at_make n a (make_ending call status n why c (subst (λ n. AnswersAs call status why n) same h))
+
 pub ending : (call : Call) (status : ℕ) → Answered call status → Ending call status
-ending call status (bad n b e silent said) = at_words n b e silent said
-ending call status (done task a w quiet) = at_report task a (report_status (call.seen).held w.bytes task.entry task.work w.text status w.report) w quiet
-ending call status (refused task why a c h) = ending_of call status task a why c h
-ending call status (made n a w e quiet) = at_make n a (at_line e w quiet)
-ending call status (unmade n why a c h) = at_make n a (make_ending call status n why c h)
+ending call status (quietly (done task a w) quiet) = at_report task a (report_status (call.seen).held w.bytes task.entry task.work w.text status w.report) w quiet
+ending call status (quietly (made n a w e) quiet) = at_make n a (at_line e w quiet)
+ending call status (aloud names why u h) = undone_ending call status names why u h
 
 -- the statuses of `make`
 pub make_status : (call : Call) (status n : ℕ) → MakeEnding call status n → In status (0 ∷ 3 ∷ 5 ∷ 7 ∷ [])

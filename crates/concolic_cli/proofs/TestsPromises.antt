@@ -82,13 +82,16 @@ module _ (call : Call) (status : ℕ) (one : OneCommand) (answered : Ending call
     source_or_tests : status ≡ 3 → (bytes text : List ℕ) → ReadAs (call.seen).held (replay_task call.words r).file bytes →
         RefusesTask (call.seen).held bytes (replay_task call.words r).entry (replay_task call.words r).work text → Unread ⊎ Read
     source_or_tests e bytes text read (inl h) =
-        inl (inr (inr (e, record {
-          bytes = bytes;
-          text = text;
-          read = read;
-          refused = h;
-          none = λ p i. unrefused law bytes (replay_task call.words r).entry p text i h;
-        })))
+        inl (inr (inr (
+          e,
+          record {
+            bytes = bytes;
+            text = text;
+            read = read;
+            refused = h;
+            none = λ p i. unrefused law bytes (replay_task call.words r).entry p text i h;
+          },
+        )))
     source_or_tests e bytes text read (inr h) = inr ((h.1).file, (h.1).read)
 
     refused_first : status ≡ 3 → (k : Task) → k ≡ replay_task call.words r → (bytes text : List ℕ) → ReadAs (call.seen).held k.file bytes →

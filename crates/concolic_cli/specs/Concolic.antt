@@ -1,5 +1,5 @@
 -- What the tool promises of a call.
-use Rattle.std.specs.Prelude.{ℕ, ◌≡◌, ◌≤◌, ◌⊎◌, List, [], ◌++◌, length, Option, Some, None, codes}
+use Rattle.std.specs.Prelude.{ℕ, ◌≡◌, ◌≤◌, ◌⊎◌, List, [], ◌++◌, length, Option, Some, None, Result, Ok, Err, codes}
 use Rattle.cc_base.specs.declared.inputs.Test.{Test}
 use Rattle.cc_base.specs.Limits.{Limits}
 use Rattle.cc_base.specs.Paths.{Path}
@@ -15,9 +15,13 @@ use Rattle.cc_outside.specs.Faults.{Rose}
 use Rattle.cc_outside.specs.Held.{Held, file_of}
 use Rattle.cc_outside.specs.Told.{appended}
 use Rattle.replay.specs.Files.{IsTestsFile}
+use Rattle.concolic_cli.specs.declared.answers.Refused.{Refused}
+use Rattle.concolic_cli.specs.declared.answers.Status.{Status}
 use Rattle.concolic_cli.specs.declared.refusal.Refusal.{Refusal}
+use Rattle.concolic_cli.specs.declared.refusal.Refusal.TheVariants as refusal
 use Rattle.search_dfs.specs.Missed.{MissesNoMore}
 use Rattle.concolic_cli.specs.Made.{made_source, made_entry}
+use Rattle.concolic_cli.specs.Named.{names_in}
 use Rattle.concolic_cli.specs.Loaded.{source_limit, tests_limit, ReadAs, IsMissing, IsTooLong}
 use Rattle.concolic_cli.specs.Refusals.{Names, bad_word_text, file_text, Says, IsAnswered}
 use Rattle.concolic_cli.specs.Session.{Seen, Wrote, Stands, Cause, WroteLast, LastStands, MadeCause}
@@ -164,9 +168,6 @@ tests_of (replay tests) = tests
 abbrev pub names_of : Task → Names
 names_of task = record { file = task.file; entry = task.entry; tests = tests_of task.work }
 
-abbrev pub no_names : Names
-no_names = record { file = []; entry = []; tests = [] }
-
 abbrev pub made_names : Names
 made_names = record { file = []; entry = made_entry; tests = [] }
 
@@ -181,14 +182,25 @@ pub record Call : Type 0 where
   pub err_faults_old : ℕ
   pub err_faults_new : ℕ
 
--- the words are bad; a session ended with its text; or it was refused for its cause; and the same of `make`
+-- the words ask for a task and a session ended with its text, or they ask to make a source and its line was written
+pub data IsDone (words : List (List ℕ)) (seen : Seen) (status : ℕ) : Type 0 where
+  done : (task : Task) → Asks words task → Wrote seen.held seen.out_old seen.out_new task status → IsDone words seen status
+  made : (n : ℕ) → Accepted words (Make n) → WroteLast n seen.out_old seen.out_new → status ≡ 0 → IsDone words seen status
+
+-- the words are bad; or a session was refused for its cause, or the making was; the text may name these words
+pub data IsUndone (words : List (List ℕ)) (seen : Seen) (names : Names) : Refusal → Type 0 where
+  bad : (n : ℕ) → BadWord words n → seen.out_new ≡ seen.out_old → IsUndone words seen names (refusal.BadWord n)
+  refused : (task : Task) → (e : Refusal) → Asks words task → Cause seen task e → names ≡ names_of task → IsUndone words seen names e
+  unmade : (n : ℕ) → (e : Refusal) → Accepted words (Make n) → MadeCause n seen.out_old seen.out_new seen.faults_old seen.faults_new e →
+      names ≡ made_names → IsUndone words seen names e
+
+-- what is done ends with a status, or with a refusal
+abbrev pub Performed : List (List ℕ) → Seen → Result Status Refused → Type 0
+Performed words seen (Ok status) = IsDone words seen status.0
+Performed words seen (Err r) = IsUndone words seen (names_in r.named) r.refusal
+
+-- it is done and nothing is said, or it is refused and the refusal is answered
 pub data Answered (call : Call) (status : ℕ) : Type 0 where
-  bad : (n : ℕ) → BadWord call.words n → status ≡ 2 → (call.seen).out_new ≡ (call.seen).out_old →
-      Says call.err_old call.err_new call.err_faults_old call.err_faults_new (bad_word_text n ++ newline) → Answered call status
-  done : (task : Task) → Asks call.words task → Wrote (call.seen).held (call.seen).out_old (call.seen).out_new task status →
-      call.err_new ≡ call.err_old → Answered call status
-  refused : (task : Task) → (e : Refusal) → Asks call.words task → Cause call.seen task e →
-      IsAnswered call.err_old call.err_new call.err_faults_old call.err_faults_new (names_of task) e status → Answered call status
-  made : (n : ℕ) → Accepted call.words (Make n) → WroteLast n (call.seen).out_old (call.seen).out_new → status ≡ 0 → call.err_new ≡ call.err_old → Answered call status
-  unmade : (n : ℕ) → (e : Refusal) → Accepted call.words (Make n) → MadeCause n (call.seen).out_old (call.seen).out_new (call.seen).faults_old (call.seen).faults_new e →
-      IsAnswered call.err_old call.err_new call.err_faults_old call.err_faults_new made_names e status → Answered call status
+  quietly : IsDone call.words call.seen status → call.err_new ≡ call.err_old → Answered call status
+  aloud : (names : Names) → (e : Refusal) → IsUndone call.words call.seen names e →
+      IsAnswered call.err_old call.err_new call.err_faults_old call.err_faults_new names e status → Answered call status

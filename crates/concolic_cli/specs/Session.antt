@@ -121,6 +121,20 @@ pub record Seen : Type 0 where
   pub faults_old : ℕ
   pub faults_new : ℕ
 
+-- that of files and of an output, for what a kind of files and a kind of output tell
+abbrev pub seen_of : {F K : Type 0} → (held : F → Option Held) → (files_faults : F → ℕ) → (written : K → Option (List ℕ)) → (faults : K → ℕ) →
+    (files_old files_new : F) → (out_old out_new : K) → Seen
+seen_of held files_faults written faults files_old files_new out_old out_new =
+    record {
+      held = held files_old;
+      files_old = files_faults files_old;
+      files_new = files_faults files_new;
+      out_old = written out_old;
+      out_new = written out_new;
+      faults_old = faults out_old;
+      faults_new = faults out_new;
+    }
+
 -- the file's bytes were read, and the text that the task asks for was written
 pub record Wrote (held : Option Held) (out_old out_new : Option (List ℕ)) (task : Task) (status : ℕ) : Type 0 where
   pub bytes : List ℕ

@@ -143,6 +143,13 @@ pub struct Named<'a> {
     pub tests: &'a str,
 }
 
+/// A refusal, and the words that its text may name.
+#[derive(Clone, Copy)]
+pub struct Refused<'a> {
+    pub refusal: Refusal,
+    pub named: Named<'a>,
+}
+
 /// The line of a refusal that is not a bad word, with a newline.
 fn line_of(alloc: Global, refusal: Refusal, named: Named<'_>) -> Result<Vec<u8>, NoMemory>
     requires { wants_memory refusal ≡ true }

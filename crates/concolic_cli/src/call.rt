@@ -1,7 +1,7 @@
 //! The one call that does all that the program does.
 
-ghost use Rattle.std.specs.Prelude.{◌≡◌, ℕ, ◌^◌, ◌<◌, ◌≤◌, ◌+◌, ◌⊎◌, ◌↔◌, ◌++◌, ◌∷◌, Bool, true, false, List, []};
-ghost use Rattle.std.specs.Prelude.{length, codes, Option, Some, None, option_map};
+ghost use Rattle.std.specs.Prelude.{◌≡◌, ℕ, ◌<◌, ◌≤◌, ◌+◌, ◌⊎◌, ◌↔◌, ◌++◌, ◌∷◌, List, []};
+ghost use Rattle.std.specs.Prelude.{length, codes, Option, Some, None};
 ghost use Rattle.cc_base.specs.declared.inputs.Input.{Input};
 ghost use Rattle.cc_base.specs.Paths.{Path, In};
 ghost use Rattle.cc_model.specs.declared.commands.RunWords.{RunWords};
@@ -24,289 +24,19 @@ ghost use Rattle.concolic_cli.specs.Concolic.{NothingMissedBut, PartStands, Sour
 ghost use Rattle.concolic_cli.specs.Concolic.{FileIsRefused, IsRefusal, TestsUnread, Answered};
 ghost use Rattle.search_dfs.specs.Missed.{IsEasy, HoldsPaths, room};
 ghost use Rattle.concolic_cli.specs.Made.{made_source, made_entry};
-ghost use Rattle.concolic_cli.specs.Named.{names_in};
 ghost use Rattle.concolic_cli.specs.Refusals.{bad_word_text, Says};
 ghost use Rattle.concolic_cli.specs.ReportFiles.{WroteTestsFile, WroteTestFile, WroteWalkFile};
-ghost use Rattle.concolic_cli.specs.Session.{Wrote, WroteLast};
+ghost use Rattle.concolic_cli.specs.Session.{Wrote, WroteLast, seen_of};
 ghost use Rattle.concolic_cli.specs.Sources.{Refuses};
 ghost use Rattle.concolic_cli.specs.Tasks.{Task, Asks, IsAfter, word_of, list_task, walk_task, trace_task, replay_task};
 ghost use Rattle.command_words.specs.Words.{texts, Accepted, BadWord};
 
-use crate::answers::{Named, Status, refuse};
-use crate::making::write_made;
-use crate::refusal::Refusal;
-use crate::session::{list_tests, replay_file, tell_run, walk_runs};
+use crate::answers::{Status, refuse};
+use crate::performing::perform;
 use c_parse::one_program;
-use cc_model::{Command, ReplayWords, RunWords, Strategy, TraceWords};
 use cc_outside::{Files, Sink};
-use command_words::{one_command, read_words};
+use command_words::one_command;
 use std::alloc::Global;
-
-/// Word number `number`, from 1; empty where there is no such word.
-fn word(words: &[String], number: u32) -> &str
-    ensures { result.now ≡ word_of (texts words.now) number }
-{
-    match words.get((number as usize).saturating_sub(1)) {
-        Some(word) => word.as_str(),
-        None => "",
-    }
-}
-
-/// The word with a number, where there is a number.
-fn word_if(words: &[String], number: Option<u32>) -> Option<&str>
-    ensures { option_map (λ w. w.now) result ≡ option_map (λ n. word_of (texts words.now) n) number }
-{
-    match number {
-        Some(number) => Some(word(words, number)),
-        None => None,
-    }
-}
-
-/// The words that a text may name, where there is no tests file.
-fn named<'a>(file: &'a str, entry: &'a str) -> Named<'a>
-    ensures { names_in result ≡ record { file = file.now; entry = entry.now; tests = [] } }
-{
-    Named {
-        file,
-        entry,
-        tests: "",
-    }
-}
-
-/// Answers a call whose words ask for a listing.
-fn answer_list<F: Files, K: Sink, E: Sink>(
-    alloc: Global,
-    words: &[String],
-    run: &RunWords,
-    files: &mut F,
-    out: &mut K,
-    err: &mut E,
-) -> Status
-    requires accepted { Accepted (texts words.now) (Run run.now) }
-    requires dfs { (run.now).strategy ≡ Dfs }
-    requires runs { 1 ≤ run.now.runs }
-    requires after { (after : Option Path) × IsAfter (texts words.now) run.now after }
-    ensures answered { Answered (record {
-      words = texts words.now;
-      seen = record {
-        held = F.held files.old;
-        files_old = F.faults files.old;
-        files_new = F.faults files.new;
-        out_old = K.written out.old;
-        out_new = K.written out.new;
-        faults_old = K.faults out.old;
-        faults_new = K.faults out.new;
-      };
-      err_old = E.written err.old;
-      err_new = E.written err.new;
-      err_faults_old = E.faults err.old;
-      err_faults_new = E.faults err.new;
-    }) result.0 }
-    ensures held { F.held files.new ≡ F.held files.old }
-{
-    let file = word(words, run.file);
-    let entry = word(words, run.entry);
-    let after = word_if(words, run.after);
-    match list_tests(alloc, run, after, file, entry, files, out) {
-        Ok(status) => status,
-        Err(refusal) => refuse(alloc, refusal, named(file, entry), err),
-    }
-}
-
-/// Answers a call whose words ask for a walk.
-fn answer_walk<F: Files, K: Sink, E: Sink>(
-    alloc: Global,
-    words: &[String],
-    run: &RunWords,
-    files: &mut F,
-    out: &mut K,
-    err: &mut E,
-) -> Status
-    requires accepted { Accepted (texts words.now) (Run run.now) }
-    requires walk { (run.now).strategy ≡ Dfs → ⊥ }
-    requires runs { 1 ≤ run.now.runs }
-    ensures answered { Answered (record {
-      words = texts words.now;
-      seen = record {
-        held = F.held files.old;
-        files_old = F.faults files.old;
-        files_new = F.faults files.new;
-        out_old = K.written out.old;
-        out_new = K.written out.new;
-        faults_old = K.faults out.old;
-        faults_new = K.faults out.new;
-      };
-      err_old = E.written err.old;
-      err_new = E.written err.new;
-      err_faults_old = E.faults err.old;
-      err_faults_new = E.faults err.new;
-    }) result.0 }
-    ensures held { F.held files.new ≡ F.held files.old }
-{
-    let file = word(words, run.file);
-    let entry = word(words, run.entry);
-    match walk_runs(alloc, run, file, entry, files, out) {
-        Ok(status) => status,
-        Err(refusal) => refuse(alloc, refusal, named(file, entry), err),
-    }
-}
-
-/// Whether the strategy is the search.
-fn is_search(strategy: Strategy) -> bool
-    ensures yes { result ≡ true → strategy ≡ Dfs }
-    ensures no { result ≡ false → strategy ≡ Dfs → ⊥ }
-{
-    match strategy {
-        Strategy::Dfs => true,
-        Strategy::Random | Strategy::UniformRandom | Strategy::Cfg => false,
-    }
-}
-
-/// Answers a call whose words are `run` and what follows.
-fn answer_run<F: Files, K: Sink, E: Sink>(
-    alloc: Global,
-    words: &[String],
-    run: &RunWords,
-    files: &mut F,
-    out: &mut K,
-    err: &mut E,
-) -> Status
-    requires accepted { Accepted (texts words.now) (Run run.now) }
-    requires runs { 1 ≤ run.now.runs }
-    requires after { (after : Option Path) × IsAfter (texts words.now) run.now after }
-    ensures answered { Answered (record {
-      words = texts words.now;
-      seen = record {
-        held = F.held files.old;
-        files_old = F.faults files.old;
-        files_new = F.faults files.new;
-        out_old = K.written out.old;
-        out_new = K.written out.new;
-        faults_old = K.faults out.old;
-        faults_new = K.faults out.new;
-      };
-      err_old = E.written err.old;
-      err_new = E.written err.new;
-      err_faults_old = E.faults err.old;
-      err_faults_new = E.faults err.new;
-    }) result.0 }
-    ensures held { F.held files.new ≡ F.held files.old }
-{
-    if is_search(run.strategy) {
-        return answer_list(alloc, words, run, files, out, err);
-    }
-    answer_walk(alloc, words, run, files, out, err)
-}
-
-/// Answers a call whose words are `trace` and what follows.
-fn answer_trace<F: Files, K: Sink, E: Sink>(
-    alloc: Global,
-    words: &[String],
-    trace: &TraceWords,
-    files: &mut F,
-    out: &mut K,
-    err: &mut E,
-) -> Status
-    requires { Accepted (texts words.now) (Trace trace.now) }
-    ensures answered { Answered (record {
-      words = texts words.now;
-      seen = record {
-        held = F.held files.old;
-        files_old = F.faults files.old;
-        files_new = F.faults files.new;
-        out_old = K.written out.old;
-        out_new = K.written out.new;
-        faults_old = K.faults out.old;
-        faults_new = K.faults out.new;
-      };
-      err_old = E.written err.old;
-      err_new = E.written err.new;
-      err_faults_old = E.faults err.old;
-      err_faults_new = E.faults err.new;
-    }) result.0 }
-    ensures held { F.held files.new ≡ F.held files.old }
-{
-    let file = word(words, trace.file);
-    let entry = word(words, trace.entry);
-    let map = word(words, trace.map);
-    match tell_run(alloc, &trace.bounds, map, file, entry, files, out) {
-        Ok(status) => status,
-        Err(refusal) => refuse(alloc, refusal, named(file, entry), err),
-    }
-}
-
-/// Answers a call whose words are `replay` and what follows.
-fn answer_replay<F: Files, K: Sink, E: Sink>(
-    alloc: Global,
-    words: &[String],
-    replay: &ReplayWords,
-    files: &mut F,
-    out: &mut K,
-    err: &mut E,
-) -> Status
-    requires { Accepted (texts words.now) (Replay replay.now) }
-    ensures answered { Answered (record {
-      words = texts words.now;
-      seen = record {
-        held = F.held files.old;
-        files_old = F.faults files.old;
-        files_new = F.faults files.new;
-        out_old = K.written out.old;
-        out_new = K.written out.new;
-        faults_old = K.faults out.old;
-        faults_new = K.faults out.new;
-      };
-      err_old = E.written err.old;
-      err_new = E.written err.new;
-      err_faults_old = E.faults err.old;
-      err_faults_new = E.faults err.new;
-    }) result.0 }
-    ensures held { F.held files.new ≡ F.held files.old }
-{
-    let file = word(words, replay.file);
-    let entry = word(words, replay.entry);
-    let tests = word(words, replay.tests);
-    match replay_file(alloc, tests, file, entry, files, out) {
-        Ok(status) => status,
-        Err(refusal) => refuse(alloc, refusal, Named { file, entry, tests }, err),
-    }
-}
-
-/// Answers a call whose words are `make` and a number.
-fn answer_make<F: Files, K: Sink, E: Sink>(
-    alloc: Global,
-    words: &[String],
-    branches: u32,
-    files: &mut F,
-    out: &mut K,
-    err: &mut E,
-) -> Status
-    requires accepted { Accepted (texts words.now) (Make branches) }
-    requires few { branches ≤ 1024 }
-    requires some { 1 ≤ branches }
-    ensures answered { Answered (record {
-      words = texts words.now;
-      seen = record {
-        held = F.held files.old;
-        files_old = F.faults files.old;
-        files_new = F.faults files.new;
-        out_old = K.written out.old;
-        out_new = K.written out.new;
-        faults_old = K.faults out.old;
-        faults_new = K.faults out.new;
-      };
-      err_old = E.written err.old;
-      err_new = E.written err.new;
-      err_faults_old = E.faults err.old;
-      err_faults_new = E.faults err.new;
-    }) result.0 }
-    ensures held { F.held files.new ≡ F.held files.old }
-{
-    match write_made(alloc, branches, out) {
-        Ok(status) => status,
-        Err(refusal) => refuse(alloc, refusal, named("", "f"), err),
-    }
-}
 
 /// Answers a call.
 fn answer<F: Files, K: Sink, E: Sink>(
@@ -318,15 +48,7 @@ fn answer<F: Files, K: Sink, E: Sink>(
 ) -> Status
     ensures answered { Answered (record {
       words = texts words.now;
-      seen = record {
-        held = F.held files.old;
-        files_old = F.faults files.old;
-        files_new = F.faults files.new;
-        out_old = K.written out.old;
-        out_new = K.written out.new;
-        faults_old = K.faults out.old;
-        faults_new = K.faults out.new;
-      };
+      seen = seen_of F.held F.faults K.written K.faults files.old files.new out.old out.new;
       err_old = E.written err.old;
       err_new = E.written err.new;
       err_faults_old = E.faults err.old;
@@ -334,12 +56,9 @@ fn answer<F: Files, K: Sink, E: Sink>(
     }) result.0 }
     ensures held { F.held files.new ≡ F.held files.old }
 {
-    match read_words(words) {
-        Ok(Command::Run(run)) => answer_run(alloc, words, &run, files, out, err),
-        Ok(Command::Trace(trace)) => answer_trace(alloc, words, &trace, files, out, err),
-        Ok(Command::Make(branches)) => answer_make(alloc, words, branches, files, out, err),
-        Ok(Command::Replay(replay)) => answer_replay(alloc, words, &replay, files, out, err),
-        Err(bad) => refuse(alloc, Refusal::BadWord(bad), named("", ""), err),
+    match perform(alloc, words, files, out) {
+        Ok(status) => status,
+        Err(refused) => refuse(alloc, refused.refusal, refused.named, err),
     }
 }
 

@@ -8,6 +8,7 @@ mod lines;
 mod listing;
 mod making;
 mod map_words;
+mod performing;
 mod prepared;
 mod program;
 mod refusal;

@@ -5,7 +5,7 @@ ghost use Rattle.cc_base.specs.Paths.{Path};
 ghost use Rattle.cc_model.specs.declared.commands.Strategy.TheVariants.{Dfs};
 ghost use Rattle.cc_model.specs.Core.{Program};
 ghost use Rattle.concolic_cli.specs.Loaded.{ReadAs, ReadTests};
-ghost use Rattle.concolic_cli.specs.Session.{FileCause, TestsCause, Ends};
+ghost use Rattle.concolic_cli.specs.Session.{FileCause, TestsCause, Ends, seen_of};
 ghost use Rattle.concolic_cli.specs.Tasks.{IsPathOf, list, walk, trace, replay};
 
 use crate::after::path_if;
@@ -74,20 +74,13 @@ pub fn list_tests<F: Files, K: Sink>(
 ) -> Result<Status, Refusal>
     requires runs { 1 ≤ (words.now).runs }
     requires after { (p : Option Path) × IsPathOf (option_map (λ w. w.now) after) p }
-    ensures ends { (p : Option Path) → IsPathOf (option_map (λ w. w.now) after.entry) p → Ends (record {
-      held = F.held files.old;
-      files_old = F.faults files.old;
-      files_new = F.faults files.new;
-      out_old = K.written out.old;
-      out_new = K.written out.new;
-      faults_old = K.faults out.old;
-      faults_new = K.faults out.new;
-    }) (record {
-      file = file.now;
-      entry = entry.now;
-      work = list (words.now).bounds (words.now).runs
-          (words.now).budget p;
-    }) result }
+    ensures ends { (p : Option Path) → IsPathOf (option_map (λ w. w.now) after.entry) p
+        → Ends (seen_of F.held F.faults K.written K.faults files.old files.new out.old out.new)
+        (record {
+          file = file.now;
+          entry = entry.now;
+          work = list (words.now).bounds (words.now).runs (words.now).budget p;
+        }) result }
     ensures held { F.held files.new ≡ F.held files.old }
 {
     let Ok(path) = path_if(alloc, after) else {
@@ -125,20 +118,12 @@ pub fn walk_runs<F: Files, K: Sink>(
 ) -> Result<Status, Refusal>
     requires runs { 1 ≤ (words.now).runs }
     requires walk { (words.now).strategy ≡ Dfs → ⊥ }
-    ensures ends { Ends (record {
-      held = F.held files.old;
-      files_old = F.faults files.old;
-      files_new = F.faults files.new;
-      out_old = K.written out.old;
-      out_new = K.written out.new;
-      faults_old = K.faults out.old;
-      faults_new = K.faults out.new;
-    }) (record {
-      file = file.now;
-      entry = entry.now;
-      work = walk (words.now).strategy (words.now).bounds
-          (words.now).runs (words.now).budget (words.now).seed;
-    }) result }
+    ensures ends { Ends (seen_of F.held F.faults K.written K.faults files.old files.new out.old out.new)
+        (record {
+          file = file.now;
+          entry = entry.now;
+          work = walk (words.now).strategy (words.now).bounds (words.now).runs (words.now).budget (words.now).seed;
+        }) result }
     ensures held { F.held files.new ≡ F.held files.old }
 {
     let source = read_source(alloc, files, file)?;
@@ -162,15 +147,8 @@ pub fn tell_run<F: Files, K: Sink>(
     files: &mut F,
     out: &mut K,
 ) -> Result<Status, Refusal>
-    ensures ends { Ends (record {
-      held = F.held files.old;
-      files_old = F.faults files.old;
-      files_new = F.faults files.new;
-      out_old = K.written out.old;
-      out_new = K.written out.new;
-      faults_old = K.faults out.old;
-      faults_new = K.faults out.new;
-    }) (record { file = file.now; entry = entry.now; work = trace bounds.now map.now }) result }
+    ensures ends { Ends (seen_of F.held F.faults K.written K.faults files.old files.new out.old out.new)
+        (record { file = file.now; entry = entry.now; work = trace bounds.now map.now }) result }
     ensures held { F.held files.new ≡ F.held files.old }
 {
     let source = read_source(alloc, files, file)?;
@@ -192,15 +170,8 @@ pub fn replay_file<F: Files, K: Sink>(
     files: &mut F,
     out: &mut K,
 ) -> Result<Status, Refusal>
-    ensures ends { Ends (record {
-      held = F.held files.old;
-      files_old = F.faults files.old;
-      files_new = F.faults files.new;
-      out_old = K.written out.old;
-      out_new = K.written out.new;
-      faults_old = K.faults out.old;
-      faults_new = K.faults out.new;
-    }) (record { file = file.now; entry = entry.now; work = replay tests.now }) result }
+    ensures ends { Ends (seen_of F.held F.faults K.written K.faults files.old files.new out.old out.new)
+        (record { file = file.now; entry = entry.now; work = replay tests.now }) result }
     ensures held { F.held files.new ≡ F.held files.old }
 {
     let source = read_source(alloc, files, file)?;
