@@ -15,7 +15,11 @@ use cc_model::{Keyword, Punct};
 use sqlite_items::Items;
 
 /// The number that stands there, as a start value.
-fn number_value(parser: &Parser<'_>, spot: Spot, value: i32) -> Result<(StartValue, Spot), ParseFault>
+fn number_value(
+    parser: &Parser<'_>,
+    spot: Spot,
+    value: i32,
+) -> Result<(StartValue, Spot), ParseFault>
     requires { spot.at < 1048576 }
     ensures shown { Shows (λ _. of_item.number_value (kind_at parser.now.tokens.now) shallow value)
         (place spot) result }

@@ -83,7 +83,11 @@ fn alias(parser: &Parser<'_>, tag: u32, spot: Spot) -> Result<(Item, Spot), Pars
 }
 
 /// The fields and the name of a `typedef struct` that stand there.
-fn struct_type(parser: &Parser<'_>, tag: Option<u32>, spot: Spot) -> Result<(Item, Spot), ParseFault>
+fn struct_type(
+    parser: &Parser<'_>,
+    tag: Option<u32>,
+    spot: Spot,
+) -> Result<(Item, Spot), ParseFault>
     ensures shown { Shows (λ n. of_item.struct_type (kind_at parser.now.tokens.now) shallow n tag)
         (place spot) result }
     ensures onward { IfOk result (λ x. spot.at < x.1.at) }

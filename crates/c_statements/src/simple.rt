@@ -41,7 +41,12 @@ fn assigned(
 }
 
 /// The step by one of `value` whose sign stands there.
-fn stepped(parser: &Parser<'_>, value: Expr, sign: Punct, here: Spot) -> Result<(Simple, Spot), ParseFault>
+fn stepped(
+    parser: &Parser<'_>,
+    value: Expr,
+    sign: Punct,
+    here: Spot,
+) -> Result<(Simple, Spot), ParseFault>
     requires { here.at < 1048576 }
     ensures shown { Shows (λ n. of.stepped (kind_at parser.now.tokens.now) shallow value (behind_maker sign))
         (place here) result }
@@ -53,7 +58,12 @@ fn stepped(parser: &Parser<'_>, value: Expr, sign: Punct, here: Spot) -> Result<
 }
 
 /// The call that the unary expression from `start` on has to be.
-fn called(parser: &Parser<'_>, start: Spot, value: Expr, here: Spot) -> Result<(Simple, Spot), ParseFault>
+fn called(
+    parser: &Parser<'_>,
+    start: Spot,
+    value: Expr,
+    here: Spot,
+) -> Result<(Simple, Spot), ParseFault>
     ensures shown { Shows (λ n. of.called (kind_at parser.now.tokens.now) shallow (place start) value)
         (place here) result }
     ensures onward { IfOk result (λ x. here.at ≤ x.1.at) }
