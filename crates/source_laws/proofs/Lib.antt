@@ -9,3 +9,4 @@ pub mod Numberings
 pub mod OneSource
 pub mod Spans
 pub mod SpansBodies
+pub mod SpansItems

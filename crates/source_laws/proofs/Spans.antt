@@ -16,16 +16,9 @@ use Rattle.cc_model.specs.ReadTypes as type
 use Rattle.cc_model.specs.ReadExpressions as by
 use Rattle.cc_model.specs.ReadExpressions.{Binary, Prefix, FieldOf, binary_sign, prefix_sign, field_sign, first_of_shape, with_first, Exp, Postfix, Bracketed, Arguments, Args, SomeArgs, Allocation}
 use Rattle.cc_model.specs.CheckedProgram.{token_level, tokens_in}
+use Rattle.source_laws.specs.Tokens.{hit, times}
 
 -- ---- how often a number stands in a list
-
--- 1 for the number, and 0 for any other
-abbrev pub hit : ℕ → ℕ → ℕ
-hit k n = if nat_eq k n then 1 else 0
-
-abbrev pub times : ℕ → List ℕ → ℕ
-times k [] = 0
-times k (n ∷ l) = hit k n + times k l
 
 hit_cases : (k n : ℕ) → ((k ≡ n) × (hit k n ≡ 1)) ⊎ (hit k n ≡ 0)
 hit_cases k n = grind (arith, nat_tests)

@@ -29,10 +29,11 @@ use Rattle.cc_model.specs.ReadStatements.{Assignment, Stepping, assign_sign, beh
 use Rattle.cc_model.specs.ReadItems as ri
 use Rattle.cc_model.specs.Reads.{Reads}
 use Rattle.cc_model.specs.CheckedProgram.{tokens_in, expression_if, simple_expressions, simple_expressions_if, start_expression, decl_expressions, head_expressions, part_expressions, stmt_expressions, expressions_of_part, item_expressions, expression_tokens}
-use Rattle.source_laws.proofs.Spans.{times, times_append, Spans, spans_none, spans_wider, spans_same, spans_both, spans_last, spans_alone, base_on, stars_on, typed_on, exp_spans, postfix_spans, bracketed_spans, arguments_spans, Between}
+use Rattle.source_laws.specs.Tokens.{times}
+use Rattle.source_laws.proofs.Spans.{times_append, Spans, spans_none, spans_wider, spans_same, spans_both, spans_last, spans_alone, base_on, stars_on, typed_on, exp_spans, postfix_spans, bracketed_spans, arguments_spans, Between}
 
 -- the tokens of expressions
-abbrev toks : List Expr → List ℕ
+abbrev pub toks : List Expr → List ℕ
 toks l = flat_map tokens_in l
 
 abbrev expressions_of : Stmt → List Expr
@@ -41,19 +42,19 @@ expressions_of s = fold-Stmt (List Expr) (List Expr) part_expressions stmt_expre
 abbrev of_stmt : Stmt → List ℕ
 of_stmt s = toks (expressions_of s)
 
-abbrev of_part : Part → List ℕ
+abbrev pub of_part : Part → List ℕ
 of_part p = toks (expressions_of_part p)
 
 abbrev of_declared : Declared → List ℕ
 of_declared p = toks (start_expression p.initializer)
 
-abbrev of_item : Item → List ℕ
+abbrev pub of_item : Item → List ℕ
 of_item i = toks (item_expressions i)
 
 toks_both : (l m : List Expr) → toks (l ++ m) ≡ toks l ++ toks m
 toks_both l m = flat_map-append tokens_in l m
 
-toks_each : {A : Type 0} (g : A → List Expr) (l : List A) → toks (flat_map g l) ≡ flat_map (λ x. toks (g x)) l
+pub toks_each : {A : Type 0} (g : A → List Expr) (l : List A) → toks (flat_map g l) ≡ flat_map (λ x. toks (g x)) l
 toks_each g [] = refl
 toks_each g (x ∷ l) = toks_both (g x) (flat_map g l) ∙ ap (λ m. toks (g x) ++ m) (toks_each g l)
 
@@ -228,7 +229,7 @@ module _ (tok : ℕ → Option Kind) (fits : ℕ → ℕ → Bool) where
   lengths_on rs.none = omega arith
   lengths_on (rs.more z h i j k) = let e = lengths_on h in omega (arith, e)
 
-  declares_on : {s t : Spot} {d : Declarator} → rs.Declares tok fits s t d → s.at ≤ t.at
+  pub declares_on : {s t : Spot} {d : Declarator} → rs.Declares tok fits s t d → s.at ≤ t.at
   declares_on (rs.declares h i k) = let e = stars_on tok fits h in let f = lengths_on k in omega (arith, e, f)
 
   initialised : {s t : Spot} {p : Declared} → rs.Initialised tok fits s t p → Between tok fits s t (of_declared p)
@@ -310,7 +311,7 @@ module _ (tok : ℕ → Option Kind) (fits : ℕ → ℕ → Bool) where
     statement (rs.simple {s = s} {t = t} {a = a} h i) = let x = simples h in let x0 = x.0 in
         (omega (arith, x0), subst (Spans s.at (suc t.at)) (sym (simple_is a)) (spans_wider s.at t.at s.at (suc t.at) (toks (simple_expressions a)) (omega arith) (omega arith) x.1))
 
-    block : {s t : Spot} {l : List Part} → rs.Block tok fits s t l → Between tok fits s t (flat_map of_part l)
+    pub block : {s t : Spot} {l : List Part} → rs.Block tok fits s t l → Between tok fits s t (flat_map of_part l)
     block (rs.braces {s = s} {t = t} {l = l} i h j) = let x = parts h in let x0 = x.0 in (omega (arith, x0), spans_wider (suc s.at) t.at s.at (suc t.at) (flat_map of_part l) (omega arith) (omega arith) x.1)
 
     parts : {s t : Spot} {l : List Part} → rs.Parts tok fits s t l → Between tok fits s t (flat_map of_part l)

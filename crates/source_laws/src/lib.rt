@@ -1,16 +1,19 @@
 //! One source is one program, however its types are numbered: laws, each the contract of a function that does nothing.
 #![tactic(auto)]
 
-ghost use Rattle.std.specs.Prelude.{◌≡◌, ℕ, List};
+ghost use Rattle.std.specs.Prelude.{◌≡◌, ◌≤◌, ℕ, Bool, List};
 ghost use Rattle.cc_model.specs.declared.tokens.Token.{Token};
 ghost use Rattle.cc_model.specs.declared.checked.Checked.{Checked};
+ghost use Rattle.cc_model.specs.declared.trees.Program as source;
 ghost use Rattle.cc_model.specs.Core.{Program};
 ghost use Rattle.cc_model.specs.Scopes.{Text};
-ghost use Rattle.cc_model.specs.CheckedProgram.{IsChecked, core_of};
+ghost use Rattle.cc_model.specs.Reads.{Reads};
+ghost use Rattle.cc_model.specs.CheckedProgram.{IsChecked, core_of, expression_tokens};
 ghost use Rattle.cc_model.specs.Source.{IsProgram};
 ghost use Rattle.source_laws.specs.Renumbering.{Renumbers};
 ghost use Rattle.source_laws.specs.SameProgram.{SameProgram};
 ghost use Rattle.source_laws.specs.Settled.{IsSettled};
+ghost use Rattle.source_laws.specs.Tokens.{times};
 ghost use Rattle.source_laws.specs.OneSource.{SettlesAll};
 
 use c_parse::one_program;
@@ -25,6 +28,12 @@ pub fn one_tree_has_one_numbering()
     ensures { (text : ℕ → Text) (tokens : List Token) (entry : Text) (c d : Checked) → IsSettled c
         → IsChecked text tokens entry c → IsChecked text tokens entry d → c.program ≡ d.program
         → (r : ℕ → ℕ) × Renumbers r (core_of c) (core_of d) }
+{}
+
+/// Each expression of a program that tokens read as has a token of its own.
+pub fn each_expression_has_its_own_token()
+    ensures { (fits : ℕ → ℕ → Bool) (tokens : List Token) (p : source.Program) → Reads fits tokens p
+        → (k : ℕ) → times k (expression_tokens p.items) ≤ 1 }
 {}
 
 /// Two programs of the same source and tested function are the same program, where each is settled.
