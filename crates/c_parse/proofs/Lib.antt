@@ -23,6 +23,8 @@ pub mod Moved
 pub mod Viable
 pub mod ViableExpressions
 pub mod Local
+pub mod Firm
+pub mod FirmStatements
 pub mod Ahead
 pub mod LocalExpressions
 pub mod ExactExpressions
