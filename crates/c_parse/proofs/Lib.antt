@@ -25,6 +25,7 @@ pub mod ViableExpressions
 pub mod Local
 pub mod Firm
 pub mod FirmStatements
+pub mod FirmItems
 pub mod Ahead
 pub mod LocalExpressions
 pub mod ExactExpressions
