@@ -26,6 +26,7 @@ pub mod Local
 pub mod Firm
 pub mod FirmStatements
 pub mod FirmItems
+pub mod Afters
 pub mod Ahead
 pub mod LocalExpressions
 pub mod ExactExpressions
