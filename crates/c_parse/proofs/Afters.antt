@@ -10,7 +10,7 @@ use Rattle.c_parse.specs.Descent.{Fault, bad, deep, Got, got, failed, spent, P, 
 use Rattle.c_parse.specs.Descent as of
 use Rattle.c_parse.specs.DescentStatements.{branch}
 use Rattle.c_parse.specs.DescentStatements as st
-use Rattle.c_parse.proofs.Viable.{Tokens, Fits, Piece, Verdict, seq, token, open_token, pass_token, close_token, done, put, put_here, put_before, verdict_on, verdict_rest, verdict_bind, verdict_then, verdict_map, verdict_if, open_verdict, pass_verdict, sign_verdict, pass_sign_verdict, word_verdict, name_verdict, close_verdict, done_verdict}
+use Rattle.c_parse.proofs.Viable.{Tokens, Fits, Piece, Verdict, seq, token, open_token, pass_token, close_token, done, here, put, put_here, put_before, verdict_on, verdict_rest, verdict_bind, verdict_then, verdict_map, verdict_if, open_verdict, pass_verdict, sign_verdict, pass_sign_verdict, word_verdict, name_verdict, close_verdict, done_verdict}
 use Rattle.c_parse.proofs.Firm.{Firm}
 use Rattle.c_parse.proofs.FirmStatements.{Goes, stop, go, goes_firm, Comma}
 
@@ -95,6 +95,12 @@ module _ (tok : Tokens) (fits : Fits) where
   pub close_shuts : {B : Type 0} (p : Punct) (n : ℕ) (Q : Piece B) (s : Spot) (g : P B) → Verdict Q tok fits (closed s n) (g (closed s n)) → Verdict (shuts p n Q) tok fits s ((of.close tok fits p n >> g) s)
   unfolding shuts close_token
   close_shuts p n Q s g v = verdict_after (kind.Punct p) (λ _. n) (λ s. closed s n) (λ s. refl) Q s (of.close tok fits p n) g (close_verdict tok fits p n s) v
+
+  pub verdict_here : {A : Type 0} (S : Spot → Piece A) (s : Spot) (q : Got A) → Verdict (S s) tok fits s q → Verdict (here S) tok fits s q
+  unfolding here
+  verdict_here S s (got a t) h = h
+  verdict_here S s (failed f) h = h
+  verdict_here S s spent h = h
 
   -- where the first part fails, the rest is the completion
   pub verdict_due : {A B : Type 0} (R : Piece A) (Q : A → Piece B) (s : Spot) (f : Fault) → Verdict R tok fits s (failed f) → Verdict (seq R Q) tok fits s (failed f)

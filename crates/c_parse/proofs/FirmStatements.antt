@@ -19,7 +19,7 @@ use Rattle.cc_model.specs.Spots.{Spot, opened, passed, back, closed, Next, Is, I
 use Rattle.cc_model.specs.ReadExpressions as ex
 use Rattle.cc_model.specs.ReadStatements as by
 use Rattle.c_parse.proofs.Viable.{Tokens, Fits}
-use Rattle.c_parse.proofs.Firm.{Firm, firm_none, firm_next, firm_map, firm2, firm3, firm4, firm5, firm8, base_firm, stars_firm, exp_firm, postfix_firm, bracketed_firm, arguments_firm}
+use Rattle.c_parse.proofs.Firm.{Firm, firm_none, firm_next, firm_map, firm2, firm3, firm4, firm5, firm6, firm8, base_firm, stars_firm, exp_firm, postfix_firm, bracketed_firm, arguments_firm}
 
 -- what stands behind the list l, one by one: at the end there is the list m
 pub data Goes (A : Type 0) (R : Spot → Spot → A → Type 0) : List A → Spot → Spot → List A → Type 0 where
@@ -35,6 +35,17 @@ module _ (tok : Tokens) (fits : Fits) where
   pub data LengthAt : Spot → Spot → Length → Type 0 where
     length : {s : Spot} (z : ℤ) → Is tok fits punct.OpenSquare s → Next tok fits (kind.Number z) (opened s) → Is tok fits punct.CloseSquare (passed (opened s)) →
         LengthAt s (passed (passed (opened s))) (record { token = suc s.at; value = z })
+
+  -- behind a declarator d: ['=' expr], where n tokens stay open
+  pub data Starting (n : ℕ) (d : Declarator) : Spot → Spot → Declared → Type 0 where
+    plain : {s : Spot} → Starting n d s s (record { declarator = d; initializer = None })
+    starts : {s t : Spot} {a : Expr} → Is tok fits punct.Assign s → ex.Exp tok fits 6 (passed s) t a →
+        Starting n d s (back t n) (record { declarator = d; initializer = Some (record { equals = s.at; value = a }) })
+
+  -- the parentheses of a `for`
+  pub data Controls : Spot → Spot → Head × Option Expr × Option Simple → Type 0 where
+    controls : {s t u v : Spot} {h : Head} {c : Option Expr} {p : Option Simple} → Is tok fits punct.Open s → by.ForHead tok fits (opened s) t h → by.OptExpr tok fits t u c →
+        Is tok fits punct.Semicolon u → by.OptSimple tok fits (passed u) v p → Is tok fits punct.Close (back v s.level) → Controls s (closed v s.level) (h, c, p)
 
   -- behind the parentheses of an `if` on e, whose word stands at p
   pub data Branches (p : Spot) (e : Expr) : Spot → Spot → Stmt → Type 0 where
@@ -64,6 +75,14 @@ module _ (tok : Tokens) (fits : Fits) where
   with_parts d stop = d
   with_parts d (go (decl x) k) = with_parts (by.decl d x) k
   with_parts d (go (stmt x) k) = with_parts (by.stmt d x) k
+
+  pub with_start : {s t u : Spot} {d : Declarator} {x : Declared} → by.Declares tok fits s t d → Starting s.level d t u x → by.Initialised tok fits s u x
+  with_start h plain = by.plain h
+  with_start h (starts i e) = by.starts h i e
+
+  pub with_controls : {b : Bool} {s t u : Spot} {x : Head × Option Expr × Option Simple} {a : Stmt} → IsKey tok fits keyword.For s → Controls (opened s) t x →
+      by.Statement tok fits b t u a → by.Statement tok fits b s (back u s.level) (a_stmt.For s.at x.0 x.1 x.2 a)
+  with_controls i (controls o h c j p k) d = by.for i o h c j p k d
 
   pub with_branches : {s t u : Spot} {e : Expr} {a : Stmt} → IsKey tok fits keyword.If s → ex.Bracketed tok fits (opened s) t e → Branches s e t u a → AnyStatement s u a
   with_branches i d (alone h) = any (by.if_alone i d h)
@@ -99,6 +118,10 @@ module _ {tok : Tokens} {fits : Fits} where
   pub declares_firm : (s t : Spot) (d : Declarator) → by.Declares tok fits s t d → Firm tok fits s.at t.at (λ tok' fits'. by.Declares tok' fits' s t d)
   declares_firm _ _ _ (by.declares d i l) = firm3 (stars_firm d) (firm_next i) (lengths_firm l) (λ tok' fits' d i l. by.declares d i l)
 
+  pub starting_firm : {n : ℕ} {d : Declarator} (s t : Spot) (x : Declared) → Starting tok fits n d s t x → Firm tok fits s.at t.at (λ tok' fits'. Starting tok' fits' n d s t x)
+  starting_firm _ _ _ plain = firm_none (λ tok' fits'. plain)
+  starting_firm _ _ _ (starts i e) = firm2 (firm_next i) (exp_firm e) (λ tok' fits' i e. starts i e)
+
   pub initialised_firm : (s t : Spot) (d : Declared) → by.Initialised tok fits s t d → Firm tok fits s.at t.at (λ tok' fits'. by.Initialised tok' fits' s t d)
   initialised_firm s t _ (by.plain {d = d} h) = firm_map (declares_firm s t d h) (λ tok' fits' h. by.plain h)
   initialised_firm _ _ _ (by.starts {s} {t} {u} {d} h i e) = firm3 (declares_firm s t d h) (firm_next i) (exp_firm e) (λ tok' fits' h i e. by.starts h i e)
@@ -129,6 +152,9 @@ module _ {tok : Tokens} {fits : Fits} where
   pub for_head_firm : {s t : Spot} {h : Head} → by.ForHead tok fits s t h → Firm tok fits s.at t.at (λ tok' fits'. by.ForHead tok' fits' s t h)
   for_head_firm (by.decl d) = firm_map (declaration_firm d) (λ tok' fits' d. by.decl d)
   for_head_firm (by.simple d i) = firm2 (opt_simple_firm d) (firm_next i) (λ tok' fits' d i. by.simple d i)
+
+  pub controls_firm : (s t : Spot) (x : Head × Option Expr × Option Simple) → Controls tok fits s t x → Firm tok fits s.at t.at (λ tok' fits'. Controls tok' fits' s t x)
+  controls_firm _ _ _ (controls i h c j p k) = firm6 (firm_next i) (for_head_firm h) (opt_expr_firm c) (firm_next j) (opt_simple_firm p) (firm_next k) (λ tok' fits' i h c j p k. controls i h c j p k)
 
   -- ---- statements
 

@@ -27,6 +27,7 @@ pub mod Firm
 pub mod FirmStatements
 pub mod FirmItems
 pub mod Afters
+pub mod ViableStatements
 pub mod Ahead
 pub mod LocalExpressions
 pub mod ExactExpressions
