@@ -10,7 +10,7 @@ use Rattle.c_parse.specs.Descent.{Fault, bad, deep, Got, got, failed, spent, P, 
 use Rattle.c_parse.specs.Descent as of
 use Rattle.c_parse.specs.DescentStatements.{branch}
 use Rattle.c_parse.specs.DescentStatements as st
-use Rattle.c_parse.proofs.Viable.{Tokens, Fits, Piece, Verdict, seq, token, open_token, pass_token, close_token, done, here, put, put_here, put_before, verdict_on, verdict_rest, verdict_bind, verdict_then, verdict_map, verdict_if, open_verdict, pass_verdict, sign_verdict, pass_sign_verdict, word_verdict, name_verdict, close_verdict, done_verdict}
+use Rattle.c_parse.proofs.Viable.{Tokens, Fits, Piece, Verdict, seq, token, open_token, pass_token, close_token, done, here, put, put_here, put_before, verdict_on, verdict_rest, verdict_bind, verdict_then, verdict_map, verdict_if, seen_verdict, missing_verdict, open_verdict, pass_verdict, sign_verdict, pass_sign_verdict, word_verdict, name_verdict, close_verdict, done_verdict}
 use Rattle.c_parse.proofs.Firm.{Firm}
 use Rattle.c_parse.proofs.FirmStatements.{Goes, stop, go, goes_firm, Comma}
 
@@ -95,6 +95,19 @@ module _ (tok : Tokens) (fits : Fits) where
   pub close_shuts : {B : Type 0} (p : Punct) (n : ℕ) (Q : Piece B) (s : Spot) (g : P B) → Verdict Q tok fits (closed s n) (g (closed s n)) → Verdict (shuts p n Q) tok fits s ((of.close tok fits p n >> g) s)
   unfolding shuts close_token
   close_shuts p n Q s g v = verdict_after (kind.Punct p) (λ _. n) (λ s. closed s n) (λ s. refl) Q s (of.close tok fits p n) g (close_verdict tok fits p n s) v
+
+  -- one that is there, where n tokens are open
+  pub take_shuts : {B : Type 0} (p : Punct) (n : ℕ) (Q : Piece B) (s : Spot) (g : P B) → tok s.at ≡ Some (kind.Punct p) → Verdict Q tok fits (closed s n) (g (closed s n)) →
+      Verdict (shuts p n Q) tok fits s ((of.take tok fits passed >> g) (back s n))
+  unfolding shuts close_token of.take ◌>>◌ ◌>>=◌
+  take_shuts p n Q s g e v = verdict_after (kind.Punct p) (λ _. n) (λ s. closed s n) (λ s. refl) Q s (λ s. of.take tok fits passed (back s n)) g
+      (seen_verdict tok fits (kind.Punct p) (λ _. n) (λ s. closed s n) (λ s. refl) s e (fits s.at n) refl) v
+
+  -- one that is missing
+  pub missing_shuts : {B : Type 0} (p : Punct) (n : ℕ) (Q : Piece B) (s : Spot) → Verdict (shuts p n Q) tok fits s (failed (bad s.at))
+  unfolding shuts close_token ◌>>◌ ◌>>=◌ go_on
+  missing_shuts p n Q s = verdict_after (kind.Punct p) (λ _. n) (λ s. closed s n) (λ s. refl) Q s (λ s. failed (bad s.at)) (λ s. spent)
+      (missing_verdict tok fits (kind.Punct p) (λ _. n) (λ s. closed s n) (λ s. refl) s) tt
 
   pub verdict_here : {A : Type 0} (S : Spot → Piece A) (s : Spot) (q : Got A) → Verdict (S s) tok fits s q → Verdict (here S) tok fits s q
   unfolding here

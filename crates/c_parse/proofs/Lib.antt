@@ -28,6 +28,8 @@ pub mod FirmStatements
 pub mod FirmItems
 pub mod Afters
 pub mod ViableStatements
+pub mod ViableBlocks
+pub mod ViableParts
 pub mod Ahead
 pub mod LocalExpressions
 pub mod ExactExpressions
