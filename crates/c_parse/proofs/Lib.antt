@@ -30,6 +30,7 @@ pub mod Afters
 pub mod ViableStatements
 pub mod ViableBlocks
 pub mod ViableParts
+pub mod ViableItems
 pub mod Ahead
 pub mod LocalExpressions
 pub mod ExactExpressions
