@@ -31,6 +31,7 @@ pub mod ViableStatements
 pub mod ViableBlocks
 pub mod ViableParts
 pub mod ViableItems
+pub mod LocalParts
 pub mod Ahead
 pub mod LocalExpressions
 pub mod ExactExpressions
