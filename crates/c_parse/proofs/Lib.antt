@@ -32,6 +32,7 @@ pub mod ViableBlocks
 pub mod ViableParts
 pub mod ViableItems
 pub mod LocalParts
+pub mod LocalStatements
 pub mod Ahead
 pub mod LocalExpressions
 pub mod ExactExpressions

@@ -21,7 +21,7 @@ before K Q i f g = go (nat_lt i K) refl
 pub local_split : {A : Type 0} (K : ℕ) (s : Spot) (r q : Got A) → (s.at < K → Alike K r q) → (K ≤ s.at → Behind K r × Behind K q) → Local K s r q
 local_split K s r q h k = (before K (Alike K r q) s.at h (λ l. alike_behind K r q (k l).0 (k l).1), k)
 
-if_behind : {A : Type 0} (K : ℕ) (b : Bool) (x y : Got A) → Behind K x → Behind K y → Behind K (if b then x else y)
+pub if_behind : {A : Type 0} (K : ℕ) (b : Bool) (x y : Got A) → Behind K x → Behind K y → Behind K (if b then x else y)
 if_behind K true x y h k = h
 if_behind K false x y h k = k
 
