@@ -33,6 +33,7 @@ pub mod ViableParts
 pub mod ViableItems
 pub mod LocalParts
 pub mod LocalStatements
+pub mod LocalItems
 pub mod Ahead
 pub mod LocalExpressions
 pub mod ExactExpressions

@@ -32,7 +32,7 @@ use Rattle.c_parse.proofs.LocalExpressions.{fine_alike, base_local, stars_local,
 use Rattle.c_parse.proofs.LocalParts.{before, local_split, if_behind, branch_local, given_local, pick_local, many_local, local_made, ends_on}
 
 module _ (K : ℕ) (tok tok' : ℕ → Option Kind) (fits : ℕ → ℕ → Bool) (same : (i : ℕ) → i < K → tok' i ≡ tok i) where
-  has_same : (p : Punct) (s : Spot) → s.at < K → st.has tok' any p s ≡ st.has tok fits p s
+  pub has_same : (p : Punct) (s : Spot) → s.at < K → st.has tok' any p s ≡ st.has tok fits p s
   unfolding st.has
   has_same p s h = ap (is_sign p) (same s.at h)
 
