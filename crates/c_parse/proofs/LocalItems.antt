@@ -35,15 +35,36 @@ third (Some (kind.Key keyword.Typedef)) i j = inr refl
 third (Some (kind.Key keyword.Void)) i j = inr refl
 third _ i j = inr refl
 
-go_assoc : {A B C : Type 0} (r : Got A) (f : A → P B) (g : B → P C) → go_on (go_on r f) g ≡ go_on r (λ a. f a >>= g)
-unfolding go_on ◌>>=◌
-go_assoc (got a t) f g = refl
-go_assoc (failed x) f g = refl
-go_assoc spent f g = refl
+-- behind the word and the name of a struct: as a type, and as a definition
+struct_rest : (tok : ℕ → Option Kind) (fits : ℕ → ℕ → Bool) (n x : ℕ) → P Item
+struct_rest tok fits n x = it.fields tok fits n >>= λ l. of.expect tok fits punct.Semicolon passed >> pure (an_item.Struct (a_def.Tagged x l))
 
--- behind the word and the name of a struct
-typed_struct : (tok : ℕ → Option Kind) (fits : ℕ → ℕ → Bool) (n : ℕ) → P Item
-typed_struct tok fits n = λ s. (of.take tok fits passed >> (of.expect_name tok fits >> it.typed_from tok fits n (base_tree.Struct (suc s.at)))) s
+abbrev Struct : (tok : ℕ → Option Kind) (fits : ℕ → ℕ → Bool) → P Item → P Item
+Struct tok fits f = of.take tok fits passed >> (of.expect_name tok fits >> f)
+
+typed_is : (tok : ℕ → Option Kind) (fits : ℕ → ℕ → Bool) (n : ℕ) (s : Spot) → tok s.at ≡ Some (kind.Key keyword.Struct) →
+    it.item_of tok fits n a_typed s ≡ Struct tok fits (it.typed_from tok fits n (base_tree.Struct (suc s.at))) s
+unfolding it.item_of of.base_type of.base_from base_at ◌>>=◌ ◌>>◌ go_on pure
+typed_is tok fits n s e = rw e (outer (of.take tok fits passed s))
+  where
+    inner : (q : Got (Unit {0})) → go_on (go_on q (λ _. pure (base_tree.Struct (suc s.at)))) (it.typed_from tok fits n) ≡ go_on q (λ _. it.typed_from tok fits n (base_tree.Struct (suc s.at)))
+    inner (got a t) = refl
+    inner (failed x) = refl
+    inner spent = refl
+
+    outer : (q : Got (Unit {0})) → go_on (go_on q (λ _. of.expect_name tok fits >> pure (base_tree.Struct (suc s.at)))) (it.typed_from tok fits n) ≡ go_on q (λ _. of.expect_name tok fits >> it.typed_from tok fits n (base_tree.Struct (suc s.at)))
+    outer (got a t) = inner (of.expect_name tok fits t)
+    outer (failed x) = refl
+    outer spent = refl
+
+struct_is : (tok : ℕ → Option Kind) (fits : ℕ → ℕ → Bool) (n : ℕ) (s : Spot) → it.item_of tok fits n a_struct s ≡ Struct tok fits (struct_rest tok fits n (suc s.at)) s
+unfolding it.item_of it.struct_def st.here struct_rest of.take ◌>>=◌ ◌>>◌ go_on
+struct_is tok fits n s = go (fits s.at s.level) tt
+  where
+    go : (b : Bool) (x : Unit {0}) → go_on (if b then got x (passed s) else failed (of.deep s.at)) (λ _. st.here (λ t. of.expect_name tok fits >> (it.fields tok fits n >>= λ l. of.expect tok fits punct.Semicolon passed >> pure (an_item.Struct (a_def.Tagged t.at l))))) ≡
+        go_on (if b then got x (passed s) else failed (of.deep s.at)) (λ _. of.expect_name tok fits >> struct_rest tok fits n (suc s.at))
+    go true x = refl
+    go false x = refl
 
 module _ (K : ℕ) (tok tok' : ℕ → Option Kind) (fits : ℕ → ℕ → Bool) (same : (i : ℕ) → i < K → tok' i ≡ tok i) where
   name_same : (s : Spot) → s.at < K → is_name (tok' s.at) ≡ is_name (tok s.at)
@@ -133,8 +154,8 @@ module _ (K : ℕ) (tok tok' : ℕ → Option Kind) (fits : ℕ → ℕ → Bool
   tagged_local n s = take_then K tok tok' fits same passed _ _ s (omega arith) (λ t. branch_local K (λ t. is_name (tok t.at)) (λ t. is_name (tok' t.at)) _ _ _ _ t (name_same t)
       (take_then K tok tok' fits same passed _ _ t (omega arith) (λ u. semicolon_end K tok tok' fits same _ u)) (struct_type_local n (Some s.at) t))
 
-  struct_rest_local : (n x : ℕ) (s : Spot) → Local K s ((it.fields tok fits n >>= λ l. of.expect tok fits punct.Semicolon passed >> pure (an_item.Struct (a_def.Tagged x l))) s)
-      ((it.fields tok' any n >>= λ l. of.expect tok' any punct.Semicolon passed >> pure (an_item.Struct (a_def.Tagged x l))) s)
+  struct_rest_local : (n x : ℕ) (s : Spot) → Local K s (struct_rest tok fits n x s) (struct_rest tok' any n x s)
+  unfolding struct_rest
   struct_rest_local n x s = local_bind K _ _ (λ l t. semicolon_end K tok tok' fits same _ t) s (it.fields tok fits n) (it.fields tok' any n) (fields_local n s)
 
   typed_from_local : (n : ℕ) (b : Base) (s : Spot) → Local K s (it.typed_from tok fits n b s) (it.typed_from tok' any n b s)
@@ -145,9 +166,57 @@ module _ (K : ℕ) (tok tok' : ℕ → Option Kind) (fits : ℕ → ℕ → Bool
       s (of.stars tok fits n) (of.stars tok' any n) (stars_local K tok tok' fits same n s)
 
   item_of_local : (n : ℕ) (q : ItemStart) (s : Spot) → Local K s (it.item_of tok fits n q s) (it.item_of tok' any n q s)
-  unfolding it.item_of it.typedef it.struct_def it.procedure st.here
+  unfolding it.item_of it.typedef it.struct_def it.procedure st.here struct_rest
   item_of_local n a_typedef s = take_then K tok tok' fits same passed _ _ s (omega arith) (λ t. local_then K t (of.expect_key tok fits keyword.Struct) (of.expect_key tok' any keyword.Struct) _ _ (word_local K tok tok' fits same keyword.Struct t)
       (λ u. branch_local K (λ s. is_name (tok s.at)) (λ s. is_name (tok' s.at)) _ _ _ _ u (name_same u) (tagged_local n u) (struct_type_local n None u)))
   item_of_local n a_struct s = take_then K tok tok' fits same passed _ _ s (omega arith) (λ t. name_then K tok tok' fits same _ _ t (λ u. struct_rest_local n t.at u))
   item_of_local n a_void s = take_then K tok tok' fits same passed _ _ s (omega arith) (λ t. name_then K tok tok' fits same _ _ t (λ u. function_local n returned.Void t.at u))
   item_of_local n a_typed s = local_bind K _ _ (λ b t. typed_from_local n b t) s (of.base_type tok fits) (of.base_type tok' any) (base_local K tok tok' fits same s)
+
+  -- the same first two tokens, and both go on behind K
+  mixed : (f g : P Item) (s : Spot) → ((u : Spot) → K ≤ u.at → Behind K (f u) × Behind K (g u)) → K ≤ suc (suc s.at) → Local K s (Struct tok fits f s) (Struct tok' any g s)
+  unfolding ◌>>◌
+  mixed f g s h k = local_made K (λ _ t. t ≡ passed s) _ _ (λ a t e. rw e (local_made K (λ _ u. u ≡ passed (passed s)) (λ _. f) (λ _. g) (λ b u q. rw q (gone (passed (passed s)) k)) (passed s) (of.expect_name tok fits) (of.expect_name tok' any)
+      (made_map _ _ (of.expect_name tok fits (passed s)) (λ _ _ p. p.1) (name_made tok fits (passed s))) (made_map _ _ (of.expect_name tok' any (passed s)) (λ _ _ p. p.1) (name_made tok' any (passed s))) (name_local K tok tok' fits same (passed s))))
+      s (of.take tok fits passed) (of.take tok' any passed)
+      (made_map _ _ (of.take tok fits passed s) (λ _ _ p. p.1) (take_made tok fits s passed (Unit {0}) (λ _. tt))) (made_map _ _ (of.take tok' any passed s) (λ _ _ p. p.1) (take_made tok' any s passed (Unit {0}) (λ _. tt)))
+      (take_local K tok tok' fits same passed s (omega arith))
+    where
+      gone : (u : Spot) → K ≤ u.at → Local K u (f u) (g u)
+      gone u l = (alike_behind K (f u) (g u) (h u l).0 (h u l).1, h u)
+
+  either_struct : (n : ℕ) (s : Spot) (b c : Bool) → tok s.at ≡ Some (kind.Key keyword.Struct) → tok' s.at ≡ Some (kind.Key keyword.Struct) → K ≤ suc (suc s.at) →
+      Local K s (it.item_of tok fits n (struct_or b) s) (it.item_of tok' any n (struct_or c) s)
+  unfolding struct_or
+  either_struct n s true true e x k = item_of_local n a_struct s
+  either_struct n s false false e x k = item_of_local n a_typed s
+  either_struct n s true false e x k = rw (struct_is tok fits n s, typed_is tok' any n s x) (mixed (struct_rest tok fits n (suc s.at)) (it.typed_from tok' any n (base_tree.Struct (suc s.at))) s
+      (λ u l. (((struct_rest_local n (suc s.at) u).1 l).0, ((typed_from_local n (base_tree.Struct (suc s.at)) u).1 l).1)) k)
+  either_struct n s false true e x k = rw (typed_is tok fits n s e, struct_is tok' any n s) (mixed (it.typed_from tok fits n (base_tree.Struct (suc s.at))) (struct_rest tok' any n (suc s.at)) s
+      (λ u l. (((typed_from_local n (base_tree.Struct (suc s.at)) u).1 l).0, ((struct_rest_local n (suc s.at) u).1 l).1)) k)
+
+  struct_at : (k j : Option Kind) → k ≡ Some (kind.Key keyword.Struct) → item_at k j ≡ struct_or (is_sign punct.OpenBrace j)
+  unfolding item_at
+  struct_at k j e = ap (λ k. item_at k j) e
+
+  item_local : (n : ℕ) (s : Spot) → Local K s (it.item tok fits n s) (it.item tok' any n s)
+  unfolding it.item st.here
+  item_local n s = before K (Local K s _ _) (suc (suc s.at))
+      (λ l. by_same (λ m. ap (λ k. item_at k (tok' (suc (suc s.at)))) (same s.at m) ∙ ap (item_at (tok s.at)) (same (suc (suc s.at)) l)))
+      (λ l. far l (third (tok s.at) (tok' (suc (suc s.at))) (tok (suc (suc s.at)))))
+    where
+      by_same : (s.at < K → item_at (tok' s.at) (tok' (suc (suc s.at))) ≡ item_at (tok s.at) (tok (suc (suc s.at)))) →
+          Local K s (it.item_of tok fits n (item_at (tok s.at) (tok (suc (suc s.at)))) s) (it.item_of tok' any n (item_at (tok' s.at) (tok' (suc (suc s.at)))) s)
+      by_same e = pick_local K (λ q. it.item_of tok fits n q) (λ q. it.item_of tok' any n q) (item_at (tok s.at) (tok (suc (suc s.at)))) (item_at (tok' s.at) (tok' (suc (suc s.at)))) s e (λ q. item_of_local n q s)
+
+      far : K ≤ suc (suc s.at) → (tok s.at ≡ Some (kind.Key keyword.Struct)) ⊎ (item_at (tok s.at) (tok' (suc (suc s.at))) ≡ item_at (tok s.at) (tok (suc (suc s.at)))) →
+          Local K s (it.item_of tok fits n (item_at (tok s.at) (tok (suc (suc s.at)))) s) (it.item_of tok' any n (item_at (tok' s.at) (tok' (suc (suc s.at)))) s)
+      far l (inr e) = by_same (λ m. ap (λ k. item_at k (tok' (suc (suc s.at)))) (same s.at m) ∙ e)
+      far l (inl e) = before K (Local K s _ _) s.at
+          (λ m. rw (struct_at (tok s.at) (tok (suc (suc s.at))) e, struct_at (tok' s.at) (tok' (suc (suc s.at))) (same s.at m ∙ e))
+          (either_struct n s (is_sign punct.OpenBrace (tok (suc (suc s.at)))) (is_sign punct.OpenBrace (tok' (suc (suc s.at)))) e (same s.at m ∙ e) l))
+          (λ m. by_same (λ o. absurd (omega arith)))
+
+  pub items_local : (n : ℕ) (s : Spot) → Local K s (it.items tok fits n s) (it.items tok' any n s)
+  unfolding it.items
+  items_local n s = many_local K tok tok' fits any (λ s. is_end (tok s.at)) (λ s. is_end (tok' s.at)) (it.item tok fits) (it.item tok' any) (λ t h. ap is_end (same t.at h)) item_local n [] s
