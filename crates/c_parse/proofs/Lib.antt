@@ -34,6 +34,7 @@ pub mod ViableItems
 pub mod LocalParts
 pub mod LocalStatements
 pub mod LocalItems
+pub mod ExactPlaces
 pub mod Ahead
 pub mod LocalExpressions
 pub mod ExactExpressions
