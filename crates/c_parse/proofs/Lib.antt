@@ -31,6 +31,7 @@ pub mod ViableStatements
 pub mod ViableBlocks
 pub mod ViableParts
 pub mod ViableItems
+pub mod Agree
 pub mod LocalParts
 pub mod LocalStatements
 pub mod LocalItems
