@@ -32,6 +32,7 @@ pub mod ViableBlocks
 pub mod ViableParts
 pub mod ViableItems
 pub mod Agree
+pub mod Walks
 pub mod LocalParts
 pub mod LocalStatements
 pub mod LocalItems
