@@ -33,6 +33,7 @@ pub mod ViableParts
 pub mod ViableItems
 pub mod Agree
 pub mod Walks
+pub mod AgreeExpressions
 pub mod LocalParts
 pub mod LocalStatements
 pub mod LocalItems
