@@ -34,6 +34,8 @@ pub mod ViableItems
 pub mod Agree
 pub mod Walks
 pub mod AgreeExpressions
+pub mod AgreeStatements
+pub mod AgreeItems
 pub mod LocalParts
 pub mod LocalStatements
 pub mod LocalItems
