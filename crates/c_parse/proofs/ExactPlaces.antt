@@ -1,5 +1,5 @@
 -- The place of a fault is exact: the tokens before it begin a program, and with it they begin none.
-use Rattle.std.proofs.Common.{◌≡◌, ◌⊎◌, inl, inr, ℕ, zero, suc, ◌+◌, ◌-◌, ◌≤◌, ◌<◌, Bool, true, false, List, [], ◌∷◌, ◌++◌, take, length, slice_get, Option, Some, None, nat_lt, refl, sym, ap, subst, ◌∙◌, arith}
+use Rattle.std.proofs.Common.{◌≡◌, ◌⊎◌, inl, inr, ℕ, zero, suc, ◌+◌, ◌-◌, ◌≤◌, ◌<◌, Bool, true, false, List, [], ◌∷◌, ◌++◌, take, length, slice_get, Option, Some, None, nat_eq, nat_lt, if◌then◌else◌, eq-eqb, refl, sym, ap, subst, ◌∙◌, arith}
 use Rattle.std.proofs.lemmas.Bool.Decides.{nat_tests}
 use Rattle.std.proofs.lemmas.Option.{slice_get_past, slice_get_within}
 use Rattle.cc_model.specs.declared.tokens.Token.{Token}
@@ -16,15 +16,15 @@ use Rattle.c_parse.specs.declared.fault.ParseFault.TheVariants.{Syntax, TooDeep,
 use Rattle.c_parse.specs.Descent.{Fault, bad, deep, Got, got, failed, Ends}
 use Rattle.c_parse.specs.DescentItems as it
 use Rattle.c_parse.specs.Shown.{ShowsFault}
-use Rattle.c_parse.specs.Places.{unbounded, shallow_before, first_deep, Begins, Ceases, IsSyntax, IsDeep, Placed}
+use Rattle.c_parse.specs.Places.{unbounded, shallow_before, first_deep, shallow_at, Begins, Ceases, IsSyntax, IsDeep, Placed}
 use Rattle.c_parse.proofs.ItemLaws.{items_yes}
-use Rattle.c_parse.proofs.Viable.{Tokens, Fits, Can, Verdict, limit, fits_of}
+use Rattle.c_parse.proofs.Viable.{Tokens, Fits, Verdict, limit, place, fits_of}
 use Rattle.c_parse.proofs.ViableItems.{items, items_verdict}
 use Rattle.c_parse.proofs.Afters.{made}
 use Rattle.c_parse.proofs.Firm.{Filled}
 use Rattle.c_parse.proofs.FirmItems.{items_firm}
-use Rattle.c_parse.proofs.Local.{Alike}
-use Rattle.c_parse.proofs.LocalItems.{items_local}
+use Rattle.c_parse.proofs.Agree.{Behind, Alike, equal, behind, early, spent_one, spent_two, Agree}
+use Rattle.c_parse.proofs.AgreeItems.{items_local}
 
 -- ---- tokens by their kinds
 
@@ -101,21 +101,50 @@ viable tokens f h = go (it.items (kind_at tokens) shallow h.0 start) (items_verd
     go : (q : Got (List Item)) → Verdict items (kind_at tokens) shallow start q → q ≡ failed f → (limit f ≤ length tokens) × Begins (fits_of shallow f) tokens (limit f)
     go q v e = all (rw e at v)
 
--- ---- with a bad token, they begin none
+-- ---- with a bad token they begin none, and with a deep one none in which it isn't deep
+
+-- over the one list there is a fault, over the other none
+clash : {A : Type 0} (K D : ℕ) (r q : Got A) (f : Fault) (a : A) (t : Spot) → Alike K D r q → r ≡ failed f → q ≡ got a t → (K ≤ place f) ⊎ ((i : ℕ) × (f ≡ deep i) × (i < D))
+clash K D r _ f a t equal e x = absurd (cc (e, x))
+clash K D r q f a t (behind h k) e x = inl (rw e at h)
+clash K D _ q f a t (early {i} l) e x = inr (i, cc (e), l)
+clash K D _ q f a t spent_one e x = absurd (cc (e))
+clash K D r _ f a t spent_two e x = absurd (cc (x))
+
+parted : (tokens text : List Token) (K D : ℕ) (fits : Fits) (f : Fault) (p : Program) → Ends (λ n. it.items (kind_at tokens) shallow n) start (failed f) → Agree K D (kind_at tokens) (kind_at text) shallow fits →
+    Reads fits text p → (K ≤ place f) ⊎ ((i : ℕ) × (f ≡ deep i) × (i < D))
+parted tokens text K D fits f p h agree r =
+    let e = items_yes (kind_at text) fits r.items r.all in
+    clash K D (it.items (kind_at tokens) shallow (h.0 + e.0) start) (it.items (kind_at text) fits (h.0 + e.0) start) f p.items r.end (items_local K D (kind_at tokens) (kind_at text) shallow fits agree (h.0 + e.0) start).0
+        (h.1 (h.0 + e.0) (omega arith)) (e.1 (h.0 + e.0) (omega arith))
 
 none_with : (tokens text : List Token) (k : ℕ) (p : Program) → Ends (λ n. it.items (kind_at tokens) shallow n) start (failed (bad k)) → ((i : ℕ) → i < suc k → kind_at text i ≡ kind_at tokens i) →
     Reads unbounded text p → ⊥
-none_with tokens text k p h same r =
-    let e = items_yes (kind_at text) unbounded r.items r.all in
-    go (it.items (kind_at tokens) shallow (h.0 + e.0) start) (it.items (kind_at text) unbounded (h.0 + e.0) start) (items_local (suc k) (kind_at tokens) (kind_at text) shallow same (h.0 + e.0) start).0
-        (h.1 (h.0 + e.0) (omega arith)) (e.1 (h.0 + e.0) (omega arith))
+none_with tokens text k p h same r = go (parted tokens text (suc k) (suc k) unbounded (bad k) p h
+    (record { same = same; keeps = λ i d l e. refl; fails = λ i d a b e. absurd (omega arith) }) r)
   where
-    apart : Alike (suc k) (failed (bad k)) (got p.items r.end) → ⊥
-    apart (inl e) = cc e
-    apart (inr h) = absurd (omega (arith, h.0))
+    go : (suc k ≤ k) ⊎ ((i : ℕ) × (bad k ≡ deep i) × (i < suc k)) → ⊥
+    go (inl l) = absurd (omega arith)
+    go (inr x) = absurd (cc (x.1))
 
-    go : (u v : Got (List Item)) → Alike (suc k) u v → u ≡ failed (bad k) → v ≡ got p.items r.end → ⊥
-    go u v l e g = apart (rw (e, g) at l)
+at_keeps : (k i d : ℕ) → shallow i d ≡ true → shallow_at k i d ≡ true
+at_keeps k i d e = go (nat_eq i k)
+  where
+    go : (b : Bool) → (if b then shallow i d else true) ≡ true
+    go true = e
+    go false = refl
+
+at_fails : (k i d : ℕ) → k ≤ i → i < suc k → shallow i d ≡ false → shallow_at k i d ≡ false
+at_fails k i d a b e = let q : i ≡ k = omega arith in let x : nat_eq i k ≡ true = eq-eqb i k q in rw x e
+
+none_shallow : (tokens text : List Token) (k : ℕ) (p : Program) → Ends (λ n. it.items (kind_at tokens) shallow n) start (failed (deep k)) → ((i : ℕ) → i < suc k → kind_at text i ≡ kind_at tokens i) →
+    Reads (shallow_at k) text p → ⊥
+none_shallow tokens text k p h same r = go (parted tokens text (suc k) k (shallow_at k) (deep k) p h
+    (record { same = same; keeps = λ i d l e. at_keeps k i d e; fails = λ i d a b e. at_fails k i d a b e }) r)
+  where
+    go : (suc k ≤ k) ⊎ ((i : ℕ) × (deep k ≡ deep i) × (i < k)) → ⊥
+    go (inl l) = absurd (omega arith)
+    go (inr x) = let e : k ≡ x.0 = cc (x.1) in absurd (omega (arith, x.2))
 
 ceases : (tokens : List Token) (k : ℕ) → k ≤ length tokens → Ends (λ n. it.items (kind_at tokens) shallow n) start (failed (bad k)) → Ceases tokens k
 ceases tokens k l h = go (nat_lt k (length tokens)) refl
@@ -129,7 +158,13 @@ pub syntax_placed : (tokens : List Token) (k : ℕ) → Ends (λ n. it.items (ki
 unfolding fits_of
 syntax_placed tokens k h = let v = viable tokens (bad k) h in (v.1, ceases tokens k v.0 h)
 
--- the tokens up to and with a deep one begin a program, in which it is the first deep one
-pub deep_begins : (tokens : List Token) (k : ℕ) → Ends (λ n. it.items (kind_at tokens) shallow n) start (failed (deep k)) → (k < length tokens) × Begins (first_deep k) tokens (suc k)
+pub deep_placed : (tokens : List Token) (k : ℕ) → Ends (λ n. it.items (kind_at tokens) shallow n) start (failed (deep k)) → IsDeep tokens k
 unfolding fits_of
-deep_begins tokens k h = let v = viable tokens (deep k) h in (omega (arith, v.0), v.1)
+deep_placed tokens k h = let v = viable tokens (deep k) h in
+    (omega (arith, v.0), v.1, λ b. none_shallow tokens (take (suc k) tokens ++ b.0) k b.1 h (λ i p. front (suc k) tokens b.0 i v.0 p) b.2)
+
+-- the fault that is found is the one that the tokens have
+pub placed : (tokens : List Token) (f : ParseFault) → ShowsFault (λ n. it.items (kind_at tokens) shallow n) start f → Placed tokens f
+placed tokens (Syntax k) h = syntax_placed tokens k h
+placed tokens (TooDeep k) h = deep_placed tokens k h
+placed tokens NoMemory h = tt

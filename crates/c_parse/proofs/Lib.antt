@@ -36,9 +36,6 @@ pub mod Walks
 pub mod AgreeExpressions
 pub mod AgreeStatements
 pub mod AgreeItems
-pub mod LocalParts
-pub mod LocalStatements
-pub mod LocalItems
 pub mod ExactPlaces
 pub mod Ahead
 pub mod LocalExpressions
