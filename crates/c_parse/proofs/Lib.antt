@@ -2,3 +2,17 @@ pub mod ItemLaws
 pub mod Programs
 pub mod ItemSteps
 pub mod NameSteps
+pub mod Firm
+pub mod FirmStatements
+pub mod FirmItems
+pub mod Afters
+pub mod ViableStatements
+pub mod ViableBlocks
+pub mod ViableParts
+pub mod ViableItems
+pub mod Agree
+pub mod Walks
+pub mod AgreeExpressions
+pub mod AgreeStatements
+pub mod AgreeItems
+pub mod ExactPlaces

@@ -1,3 +1,4 @@
 pub mod Gives
+pub mod Places
 pub mod DescentItems
 pub mod ShownItems

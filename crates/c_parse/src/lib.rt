@@ -1,11 +1,12 @@
 //! The parser: which tokens are a program, and of which tree.
 #![tactic(auto)]
 
-ghost use Rattle.std.specs.Prelude.{◌≡◌, ◌≤◌, ◌⊎◌, ℕ, Bool, List, IfOk, Err, length};
+ghost use Rattle.std.specs.Prelude.{◌≡◌, ◌≤◌, ◌⊎◌, ℕ, Bool, List, IfOk, IfErr, Err, length};
 ghost use Rattle.cc_model.specs.declared.tokens.Token.{Token};
 ghost use Rattle.cc_model.specs.declared.trees.Program.{Program};
 ghost use Rattle.cc_model.specs.Reads.{Accepts, Reads};
 ghost use Rattle.c_parse.specs.Gives.{GivesOnly};
+ghost use Rattle.c_parse.specs.Places.{Placed};
 
 mod functions;
 mod globals;
@@ -19,8 +20,9 @@ use c_expressions::{Parser, Spot};
 use cc_model::{Program, Token};
 use std::alloc::Global;
 
-/// The program that the tokens are. `Syntax` or `TooDeep` where they are accepted as none, at the token where the
-/// parser found it; `NoMemory` where memory runs out.
+/// The program that the tokens are. `Syntax` where they are accepted as none, at the first token with which they begin
+/// no program, or at their number where all of them begin one; `TooDeep` before that, at the first token whose level is
+/// above 200; `NoMemory` where memory runs out.
 pub fn parse(alloc: Global, tokens: &[Token]) -> Result<Program, ParseFault>
     requires { length tokens.now ≤ 1048576 }
     // The tokens are accepted as the program that is given.
@@ -30,6 +32,8 @@ pub fn parse(alloc: Global, tokens: &[Token]) -> Result<Program, ParseFault>
     // A fault of the tokens comes only where they are accepted as no program.
     ensures refused { (k : ℕ) → (result ≡ Err (ParseFault.Syntax k)) ⊎ (result ≡ Err (ParseFault.TooDeep k))
         → (p : Program) → Accepts tokens.now p → ⊥ }
+    // The fault is the one that the tokens have, at its token.
+    ensures place { IfErr result (λ e. Placed tokens.now e) }
 {
     let parser = Parser { alloc, tokens };
     let (items, _end) = items(&parser, Spot { at: 0, level: 0 })?;

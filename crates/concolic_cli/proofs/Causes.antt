@@ -37,12 +37,12 @@ wrong_cause bytes entry line wrong.BadByte h = lexical_cause bytes entry line _ 
 wrong_cause bytes entry line wrong.BadNumber h = lexical_cause bytes entry line _ h
 wrong_cause bytes entry line wrong.OpenComment h = lexical_cause bytes entry line _ h
 wrong_cause bytes entry line wrong.BadDirective h = lexical_cause bytes entry line _ h
-wrong_cause bytes entry line wrong.Syntax h = subst (λ l. Refuses bytes entry (source_text l (codes "syntax"))) (sym h.3) (syntax h.0 h.1 h.2 h.4)
+wrong_cause bytes entry line wrong.Syntax h = subst (λ l. Refuses bytes entry (source_text l (codes "syntax"))) (sym h.3) (syntax h.0 h.1 h.2 h.4 h.5)
 wrong_cause bytes entry line wrong.UnknownName h = faulty_cause bytes entry line kind.Unknown h
 wrong_cause bytes entry line wrong.DeclaredTwice h = faulty_cause bytes entry line kind.Twice h
 wrong_cause bytes entry line wrong.Mismatch h = faulty_cause bytes entry line kind.Mismatch h
 wrong_cause bytes entry line wrong.TooLarge h = faulty_cause bytes entry line kind.TooLarge h
-wrong_cause bytes entry line wrong.TooDeep h = subst (λ l. Refuses bytes entry (source_text l (codes "too deep"))) (sym h.3) (too_deep h.0 h.1 h.2 h.4)
+wrong_cause bytes entry line wrong.TooDeep h = subst (λ l. Refuses bytes entry (source_text l (codes "too deep"))) (sym h.3) (too_deep h.0 h.1 h.2 h.4 h.5)
 
 -- a source that is no program with such a function is refused for that cause
 pub no_program_cause : (bytes entry : List ℕ) (work : Work) (e : Refusal) → IsNoProgram bytes entry e → SourceCause bytes entry work e

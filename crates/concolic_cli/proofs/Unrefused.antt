@@ -43,8 +43,8 @@ none_faulty one bytes entry p i tokens tree h read =
 
 pub unrefused : OneProgram → (bytes entry : List ℕ) (p : Program) (text : List ℕ) → IsProgram bytes entry p → Refuses bytes entry text → ⊥
 unrefused one bytes entry p _ i (lexical f h) = cc (i.lexed, h)
-unrefused one bytes entry p _ i (syntax tokens place h none) = read_unread bytes entry p i tokens h none
-unrefused one bytes entry p _ i (too_deep tokens place h none) = read_unread bytes entry p i tokens h none
+unrefused one bytes entry p _ i (syntax tokens place h none at) = read_unread bytes entry p i tokens h none
+unrefused one bytes entry p _ i (too_deep tokens place h none at) = read_unread bytes entry p i tokens h none
 unrefused one bytes entry p _ i (fault tokens tree f h read first) = subst (λ l. In f l) (none_faulty one bytes entry p i tokens tree h read).0 first.0
 unrefused one bytes entry p _ i (no_entry tokens tree h read well none) = let body = (none_faulty one bytes entry p i tokens tree h read).1 in cc (body, none)
 

@@ -10,6 +10,7 @@ use Rattle.cc_model.specs.Reads.{Accepts}
 use Rattle.cc_model.specs.Faults.{WellTyped, IsFirst, has_entry}
 use Rattle.cc_model.specs.CheckedProgram.{IsChecked}
 use Rattle.cc_model.specs.Source.{text_at, place_line}
+use Rattle.c_parse.specs.Places.{IsSyntax, IsDeep}
 use Rattle.concolic_cli.specs.Sources.{offset_of, what_of}
 use Rattle.concolic_cli.specs.declared.refusal.Wrong.{Wrong}
 use Rattle.concolic_cli.specs.declared.refusal.Wrong.TheVariants.{BadByte, BadNumber, OpenComment, BadDirective, Syntax, TooDeep, UnknownName, DeclaredTwice, Mismatch, TooLarge}
@@ -26,9 +27,9 @@ pub record ReadsAs (bytes entry : List ℕ) (tokens : List Token) (checked : Che
 abbrev pub IsLexical : List ℕ → ℕ → List ℕ → Type 0
 IsLexical bytes line what = (fault : LexicalFault) × (tokens_of bytes ≡ Err fault) × (line ≡ line_at bytes (offset_of fault)) × (what ≡ what_of fault)
 
--- the tokens are no program, and the line is that of one of them or of the source's end
-abbrev pub IsUnread : List ℕ → ℕ → Type 0
-IsUnread bytes line = (tokens : List Token) × (place : ℕ) × (tokens_of bytes ≡ Ok tokens) × (line ≡ place_line bytes tokens place) × ((tree : Program) → Accepts tokens tree → ⊥)
+-- the tokens are no program, and the line is that of this place, one of them or the source's end
+abbrev pub IsUnread : (List Token → ℕ → Type 0) → List ℕ → ℕ → Type 0
+IsUnread IsPlace bytes line = (tokens : List Token) × (place : ℕ) × (tokens_of bytes ≡ Ok tokens) × (line ≡ place_line bytes tokens place) × ((tree : Program) → Accepts tokens tree → ⊥) × IsPlace tokens place
 
 -- the first fault of the program is of this kind, and the line is that of its token
 pub record IsFaulty (bytes : List ℕ) (line : ℕ) (what : typing.Wrong) : Type 0 where
@@ -46,8 +47,8 @@ IsWrong bytes line BadByte = IsLexical bytes line (codes "bad byte")
 IsWrong bytes line BadNumber = IsLexical bytes line (codes "bad number")
 IsWrong bytes line OpenComment = IsLexical bytes line (codes "open comment")
 IsWrong bytes line BadDirective = IsLexical bytes line (codes "bad directive")
-IsWrong bytes line Syntax = IsUnread bytes line
-IsWrong bytes line TooDeep = IsUnread bytes line
+IsWrong bytes line Syntax = IsUnread IsSyntax bytes line
+IsWrong bytes line TooDeep = IsUnread IsDeep bytes line
 IsWrong bytes line UnknownName = IsFaulty bytes line fault.Unknown
 IsWrong bytes line DeclaredTwice = IsFaulty bytes line fault.Twice
 IsWrong bytes line Mismatch = IsFaulty bytes line fault.Mismatch

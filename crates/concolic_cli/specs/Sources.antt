@@ -9,6 +9,7 @@ use Rattle.cc_model.specs.Lexical.{LexicalFault, bad_byte, bad_number, open_comm
 use Rattle.cc_model.specs.Reads.{Accepts}
 use Rattle.cc_model.specs.Faults.{Found, WellTyped, IsFirst, has_entry}
 use Rattle.cc_model.specs.Source.{text_at, place_line}
+use Rattle.c_parse.specs.Places.{IsSyntax, IsDeep}
 
 abbrev pub offset_of : LexicalFault → ℕ
 offset_of (bad_byte at) = at
@@ -41,12 +42,12 @@ no_entry_text name = codes "no entry " ++ name
 pub data Refuses (bytes entry : List ℕ) : List ℕ → Type 0 where
   -- a byte, number, comment or directive is bad
   lexical : (fault : LexicalFault) → tokens_of bytes ≡ Err fault → Refuses bytes entry (source_text (line_at bytes (offset_of fault)) (what_of fault))
-  -- The tokens are no program, or a token's level is too high. Which of the two is said, and of which place, is promised
-  -- of neither so far: either text may come, for some token or for the source's end.
+  -- the tokens are no program, and cease at this place to begin one
   syntax : (tokens : List Token) → (place : ℕ) → tokens_of bytes ≡ Ok tokens → ((tree : source_program.Program) → Accepts tokens tree → ⊥) →
-      Refuses bytes entry (source_text (place_line bytes tokens place) (codes "syntax"))
+      IsSyntax tokens place → Refuses bytes entry (source_text (place_line bytes tokens place) (codes "syntax"))
+  -- or begin one in which the token at this place is the first whose level is too high
   too_deep : (tokens : List Token) → (place : ℕ) → tokens_of bytes ≡ Ok tokens → ((tree : source_program.Program) → Accepts tokens tree → ⊥) →
-      Refuses bytes entry (source_text (place_line bytes tokens place) (codes "too deep"))
+      IsDeep tokens place → Refuses bytes entry (source_text (place_line bytes tokens place) (codes "too deep"))
   -- a name, a declaration, a type or a size is wrong: the first fault is said
   fault : (tokens : List Token) → (tree : source_program.Program) → (f : Found) → tokens_of bytes ≡ Ok tokens → Accepts tokens tree →
       IsFirst (text_at bytes tokens) tree.items f → Refuses bytes entry (source_text (place_line bytes tokens f.token) (wrong_text f.what))

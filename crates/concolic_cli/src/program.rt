@@ -2,6 +2,7 @@
 
 ghost use Rattle.std.specs.Prelude.{◌≡◌, ℕ, ◌^◌, ◌<◌, ◌≤◌, ◌+◌, Ok, IfOk, IfErr, length, List, take, count_by};
 ghost use Rattle.c_lex.specs.Faults.{Fails};
+ghost use Rattle.c_parse.specs.Places.{Placed};
 ghost use Rattle.c_types.specs.Refused.{IsTypeFault};
 ghost use Rattle.cc_model.specs.Lexical.{tokens_of, line_at, is_newline};
 ghost use Rattle.cc_model.specs.Reads.{Accepts};
@@ -83,7 +84,7 @@ fn refusal_at(source: &[u8], tokens: &[Token], fault: ParseFault) -> Refusal
     requires short { length source.now ≤ 1048576 }
     requires lexed { tokens_of source.now ≡ Ok tokens.now }
     ensures { (entry : List ℕ) → ((tree : Program) → Accepts tokens.now tree → fault ≡ ParseFault.NoMemory)
-        → IsNoProgram source.now entry result }
+        → Placed tokens.now fault → IsNoProgram source.now entry result }
 {
     match fault {
         ParseFault::Syntax(at) => Refusal::Source(place_line(source, tokens, at), Wrong::Syntax),

@@ -1,6 +1,7 @@
 use Rattle.c_parse.proofs.Programs.{given_reads, given_only}
 use Rattle.c_parse.proofs.ItemSteps.{exit_only, refuses}
 use Rattle.c_expressions.specs.Shown.{place}
+use Rattle.c_parse.proofs.ExactPlaces.{exit_placed}
 use Rattle.c_parse.proofs.parse.Goals as goal
 
 pub returns-in_err-items-clause-only : goal.returns-in_err-items-clause-only
@@ -14,3 +15,6 @@ returns-clause-found c = given_reads c.args.tokens.now c.in_ok-items.items (plac
 
 pub returns-clause-only : goal.returns-clause-only
 returns-clause-only c = λ p a. given_only c.args.tokens.now c.in_ok-items.items (place c.in_ok-items._end) p c.in_ok-items.ensures.shown a
+
+pub returns-in_err-items-clause-place : goal.returns-in_err-items-clause-place
+returns-in_err-items-clause-place c = exit_placed c.args.tokens.now _ c.in_err-items.field-0.0 c.from_residual.ensures c.in_err-items.ensures.shown

@@ -3,6 +3,7 @@
 use Rattle.std.proofs.Common.{subst, sym, ◌∙◌}
 use Rattle.cc_model.specs.Reads.{Accepts}
 use Rattle.cc_model.specs.Source.{text_at}
+use Rattle.c_parse.specs.Places.{Placed}
 use Rattle.c_types.specs.Refused.{IsTypeFault}
 use Rattle.concolic_cli.proofs.program.read_program.Goals as goal
 
@@ -12,6 +13,7 @@ returns-in-Err-clause-source_refused c = c.refusal_of.ensures c.args.entry.now c
 pub returns-in-Err-parse-clause-source_refused : goal.returns-in-Err-parse-clause-source_refused
 returns-in-Err-parse-clause-source_refused c =
     c.refusal_at.ensures c.args.entry.now (λ tree a. c.in-Err-parse.ensures.only tree (subst (λ u. Accepts u tree) (c.deref-in-Err-parse.ensures.value ∙ sym c.deref.ensures.value) a))
+    (subst (λ u. Placed u c.in-Err-parse.fault) (c.deref.ensures.value ∙ sym c.deref-in-Err-parse.ensures.value) c.in-Err-parse.ensures.place)
 
 pub returns-in-Err-check-clause-source_refused : goal.returns-in-Err-check-clause-source_refused
 returns-in-Err-check-clause-source_refused c =
