@@ -2,10 +2,10 @@
 use Rattle.std.specs.Prelude.{◌≡◌, true, false, Option, Some, None}
 use Rattle.cc_model.specs.declared.tokens.Kind.{Kind}
 use Rattle.cc_model.specs.declared.tokens.Punct.TheVariants as punct
-use Rattle.c_statements.specs.declared.openings.ItemStart.{ItemStart}
-use Rattle.c_statements.specs.declared.openings.ItemStart.TheVariants as item
-use Rattle.c_statements.specs.declared.openings.ValueStart.{ValueStart}
-use Rattle.c_statements.specs.declared.openings.ValueStart.TheVariants as value
+use Rattle.c_parse.specs.declared.openings.ItemStart.{ItemStart}
+use Rattle.c_parse.specs.declared.openings.ItemStart.TheVariants as item
+use Rattle.c_parse.specs.declared.openings.ValueStart.{ValueStart}
+use Rattle.c_parse.specs.declared.openings.ValueStart.TheVariants as value
 use Rattle.c_expressions.specs.Descent.{is_sign}
 use Rattle.c_statements.specs.DescentStatements.{number_at}
 use Rattle.c_parse.specs.DescentItems as of_item
