@@ -10,3 +10,5 @@ pub mod OneSource
 pub mod Spans
 pub mod SpansBodies
 pub mod SpansItems
+pub mod TypedOnce
+pub mod TypedBodies

@@ -1,5 +1,5 @@
 -- Each expression has a token of its own: by the grammar, the tokens of an expression stand within its place, none twice.
-use Rattle.std.proofs.Common.{◌≡◌, ℕ, zero, suc, ◌+◌, ◌<◌, ◌≤◌, ◌⊎◌, inl, inr, Bool, ℤ, List, [], ◌∷◌, ◌++◌, map, flat_map, length, Option, Some, None, refl, sym, ap, ap₂, subst, ◌∙◌, arith, nat_eq, if◌then◌else◌}
+use Rattle.std.proofs.Common.{◌≡◌, ℕ, zero, suc, ◌+◌, ◌<◌, ◌≤◌, ◌⊎◌, inl, inr, Bool, ℤ, List, [], ◌∷◌, ◌++◌, map, flat_map, Option, Some, None, refl, sym, ap, subst, ◌∙◌, arith}
 use Rattle.std.proofs.lemmas.Bool.Decides.{nat_tests}
 use Rattle.cc_model.specs.declared.tokens.Kind.{Kind}
 use Rattle.cc_model.specs.declared.tokens.Punct.{Punct}
@@ -10,8 +10,8 @@ use Rattle.cc_model.specs.declared.trees.Expr.{Expr, out-Expr, roll-Expr, map-Ex
 use Rattle.cc_model.specs.declared.trees.Expr.TheOpen.{Expr-F}
 use Rattle.cc_model.specs.declared.trees.Expr.TheOpen as shape
 use Rattle.cc_model.specs.declared.trees.Expr.TheVariants as tree
-use Rattle.cc_model.specs.declared.trees.Expr.TheFolds.{fold-Expr, fold_out-Expr, fold-roll-Expr}
-use Rattle.cc_model.specs.Spots.{Spot, opened, passed, back, closed}
+use Rattle.cc_model.specs.declared.trees.Expr.TheFolds.{fold_out-Expr, fold-roll-Expr}
+use Rattle.cc_model.specs.Spots.{Spot}
 use Rattle.cc_model.specs.ReadTypes as type
 use Rattle.cc_model.specs.ReadExpressions as by
 use Rattle.cc_model.specs.ReadExpressions.{Binary, Prefix, FieldOf, binary_sign, prefix_sign, field_sign, first_of_shape, with_first, Exp, Postfix, Bracketed, Arguments, Args, SomeArgs, Allocation}
@@ -70,7 +70,7 @@ pub spans_between : (lo n hi : ℕ) (l m : List ℕ) → lo ≤ n → suc n ≤ 
 spans_between lo n hi l m p q h i =
     let one : Spans n (suc n) (n ∷ []) = spans_one n (suc n) n (omega arith) (omega arith) in
     spans_same lo hi (l ++ (n ∷ m)) (n ∷ (l ++ m)) (λ k. (let a = times_append k l (n ∷ m) in let b = times_append k l m in omega (arith, a, b)))
-        (spans_both lo n n hi l (n ∷ m) p (omega arith) (omega (arith, q)) h (spans_both n (suc n) (suc n) hi (n ∷ []) m (omega arith) (omega arith) q one i))
+    (spans_both lo n n hi l (n ∷ m) p (omega arith) (omega (arith, q)) h (spans_both n (suc n) (suc n) hi (n ∷ []) m (omega arith) (omega arith) q one i))
 
 times_last : {A : Type 0} (g : A → List ℕ) (k : ℕ) (l : List A) (a : A) → times k (flat_map g (l ++ a ∷ [])) ≡ times k (flat_map g l ++ g a)
 times_last g k [] a = let e = times_append k (g a) [] in omega (arith, e)
@@ -375,14 +375,18 @@ module _ (tok : ℕ → Option Kind) (fits : ℕ → ℕ → Bool) where
         (omega (arith, x, y, z), subst (Spans s.at v.at) (sym (tokens_Malloc s.at (suc u.at) (Some (record { base = b; stars = suc n })) ty)) (spans_one s.at v.at (suc u.at) (omega (arith, y, z)) (omega (arith, x))))
     postfix_spans (by.field {s = s} {t = t} {a = a} p make h e i j) =
         let x = postfix_spans h in let x0 = x.0 in
-        let is : IsField (Some make) = subst IsField e (field_tokens p) in
-        (omega (arith, x0), subst (Spans s.at (suc (suc t.at))) (sym (is s.at t.at a (suc t.at)))
-        (spans_same s.at (suc (suc t.at)) (tokens_in a ++ (t.at ∷ [])) (t.at ∷ tokens_in a) (λ k. (let e = times_append k (tokens_in a) (t.at ∷ []) in omega (arith, e)))
-        (spans_both s.at t.at t.at (suc (suc t.at)) (tokens_in a) (t.at ∷ []) x0 (omega arith) (omega arith) x.1 (spans_one t.at (suc (suc t.at)) t.at (omega arith) (omega arith)))))
+        let is : IsField (Some make) = subst IsField e (field_tokens p) in (
+          omega (arith, x0),
+          subst (Spans s.at (suc (suc t.at))) (sym (is s.at t.at a (suc t.at)))
+              (spans_same s.at (suc (suc t.at)) (tokens_in a ++ (t.at ∷ [])) (t.at ∷ tokens_in a) (λ k. (let e = times_append k (tokens_in a) (t.at ∷ []) in omega (arith, e)))
+              (spans_both s.at t.at t.at (suc (suc t.at)) (tokens_in a) (t.at ∷ []) x0 (omega arith) (omega arith) x.1 (spans_one t.at (suc (suc t.at)) t.at (omega arith) (omega arith)))),
+        )
     postfix_spans (by.index {s = s} {t = t} {u = u} {a = a} {i = i} h j k o) =
-        let x = postfix_spans h in let y = exp_spans k in let x0 = x.0 in let y0 = y.0 in
-        (omega (arith, x0, y0), subst (Spans s.at (suc u.at)) (sym (tokens_Index s.at t.at a i)) (spans_between s.at t.at (suc u.at) (tokens_in a) (tokens_in i) x0 (omega (arith, y0)) x.1
-        (spans_wider (suc t.at) u.at (suc t.at) (suc u.at) (tokens_in i) (omega arith) (omega arith) y.1)))
+        let x = postfix_spans h in let y = exp_spans k in let x0 = x.0 in let y0 = y.0 in (
+          omega (arith, x0, y0),
+          subst (Spans s.at (suc u.at)) (sym (tokens_Index s.at t.at a i)) (spans_between s.at t.at (suc u.at) (tokens_in a) (tokens_in i) x0 (omega (arith, y0)) x.1
+              (spans_wider (suc t.at) u.at (suc t.at) (suc u.at) (tokens_in i) (omega arith) (omega arith) y.1)),
+        )
 
     pub bracketed_spans : {s t : Spot} {a : Expr} → Bracketed tok fits s t a → Between s t (tokens_in a)
     bracketed_spans (by.bracketed {s = s} {t = t} {a = a} i h j) = let x = exp_spans h in let x0 = x.0 in

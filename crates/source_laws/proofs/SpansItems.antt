@@ -1,9 +1,8 @@
 -- The expressions of a program have tokens of their own, item by item.
-use Rattle.std.proofs.Common.{◌≡◌, ℕ, suc, ◌≤◌, Bool, List, [], ◌∷◌, ◌++◌, flat_map, Option, refl, sym, subst, arith}
+use Rattle.std.proofs.Common.{ℕ, ◌≤◌, Bool, List, flat_map, Option, sym, subst, arith}
 use Rattle.cc_model.specs.declared.tokens.Token.{Token}
 use Rattle.cc_model.specs.declared.tokens.Kind.{Kind}
 use Rattle.cc_model.specs.declared.trees.ResultType.{ResultType}
-use Rattle.cc_model.specs.declared.trees.Declarator.{Declarator}
 use Rattle.cc_model.specs.declared.trees.Field.{Field}
 use Rattle.cc_model.specs.declared.trees.Param.{Param}
 use Rattle.cc_model.specs.declared.trees.ProtoParam.{ProtoParam}
