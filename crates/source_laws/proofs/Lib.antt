@@ -7,6 +7,7 @@ pub mod SameBodies
 pub mod TypeNumbers
 pub mod Numberings
 pub mod OneSource
+pub mod Counting
 pub mod Spans
 pub mod SpansBodies
 pub mod SpansItems

@@ -23,7 +23,8 @@ use Rattle.cc_model.specs.Spots.{Spot}
 use Rattle.cc_model.specs.ReadStatements as rs
 use Rattle.cc_model.specs.ReadStatements.{Assignment, Stepping, assign_sign, behind_sign, before_sign}
 use Rattle.cc_model.specs.CheckedProgram.{tokens_in, expression_if, simple_expressions, simple_expressions_if, start_expression, head_expressions, part_expressions, stmt_expressions, expressions_of_part, item_expressions}
-use Rattle.source_laws.proofs.Spans.{Spans, spans_none, spans_wider, spans_both, spans_last, spans_alone, base_on, stars_on, exp_spans, postfix_spans, bracketed_spans, arguments_spans, Between}
+use Rattle.source_laws.proofs.Counting.{Spans, spans_none, spans_wider, spans_both, spans_last, spans_alone}
+use Rattle.source_laws.proofs.Spans.{base_on, stars_on, exp_spans, postfix_spans, bracketed_spans, arguments_spans, Between}
 
 -- the tokens of expressions
 abbrev pub toks : List Expr → List ℕ

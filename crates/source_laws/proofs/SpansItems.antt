@@ -16,7 +16,8 @@ use Rattle.cc_model.specs.ReadItems as ri
 use Rattle.cc_model.specs.Reads.{Reads}
 use Rattle.cc_model.specs.CheckedProgram.{item_expressions, expressions_of_part, expression_tokens}
 use Rattle.source_laws.specs.Tokens.{times}
-use Rattle.source_laws.proofs.Spans.{Spans, spans_none, spans_wider, spans_last, base_on, typed_on, Between}
+use Rattle.source_laws.proofs.Counting.{Spans, spans_none, spans_wider, spans_last}
+use Rattle.source_laws.proofs.Spans.{base_on, typed_on, Between}
 use Rattle.source_laws.proofs.SpansBodies.{of_part, of_item, toks_each, declares_on, block}
 
 module _ (tok : ℕ → Option Kind) (fits : ℕ → ℕ → Bool) where

@@ -47,7 +47,7 @@ use Rattle.cc_model.specs.declared.trees.Program.{Program}
 use Rattle.cc_model.specs.Reads.{Reads}
 use Rattle.source_laws.specs.Tokens.{times, typed_in}
 use Rattle.source_laws.proofs.SpansItems.{tokens_once}
-use Rattle.source_laws.proofs.Spans.{times_append}
+use Rattle.source_laws.proofs.Counting.{times_append}
 use Rattle.source_laws.proofs.SpansBodies.{toks, toks_both, toks_each}
 use Rattle.source_laws.proofs.TypedOnce.{Silent, silent_both, silent_if, Few, few_silent, few_none, few_both, few_then, few_behind, rule_silent, beside_silent, unknown_silent, size_silent, said_call, judged_few}
 

@@ -22,7 +22,7 @@ use Rattle.cc_model.specs.Typing.{null_beside, rule, Judged, right, silent, judg
 use Rattle.cc_model.specs.CheckedProgram.{token_level, tokens_in}
 use Rattle.cc_model.proofs.Related.{AllRelated, Levels, related}
 use Rattle.source_laws.specs.Tokens.{times, typed_in}
-use Rattle.source_laws.proofs.Spans.{times_append}
+use Rattle.source_laws.proofs.Counting.{times_append}
 
 typed_both : (l m : List Note) → typed_in (l ++ m) ≡ typed_in l ++ typed_in m
 typed_both [] m = refl
