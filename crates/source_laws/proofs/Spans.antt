@@ -1,4 +1,4 @@
--- Each expression has a token of its own: by the grammar, the tokens of an expression stand within its place, none twice.
+-- By the grammar, the tokens of an expression stand within its place, none twice.
 use Rattle.std.proofs.Common.{◌≡◌, ℕ, suc, ◌≤◌, Bool, ℤ, List, [], ◌∷◌, ◌++◌, map, flat_map, Option, Some, None, refl, sym, ap, subst, ◌∙◌, arith}
 use Rattle.cc_model.specs.declared.tokens.Kind.{Kind}
 use Rattle.cc_model.specs.declared.tokens.Punct.{Punct}
