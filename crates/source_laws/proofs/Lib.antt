@@ -7,6 +7,9 @@ pub mod SameBodies
 pub mod TypeNumbers
 pub mod Numberings
 pub mod OneSource
+pub mod Counting
 pub mod Spans
 pub mod SpansBodies
 pub mod SpansItems
+pub mod TypedOnce
+pub mod TypedBodies

@@ -1,14 +1,12 @@
 -- Each expression of a program has a token of its own.
-use Rattle.std.proofs.Common.{◌≡◌, ℕ, suc, ◌+◌, ◌<◌, ◌≤◌, Bool, ℤ, List, [], ◌∷◌, ◌++◌, map, flat_map, Option, Some, None, refl, sym, ap, ap₂, subst, ◌∙◌, arith, append_assoc}
+use Rattle.std.proofs.Common.{◌≡◌, ℕ, suc, ◌≤◌, Bool, List, [], ◌∷◌, ◌++◌, flat_map, Option, Some, None, refl, sym, ap, subst, ◌∙◌, arith}
 use Rattle.std.proofs.lemmas.List.Folds.{flat_map-map}
 use Rattle.std.proofs.lemmas.Grind.{flat_map-append}
-use Rattle.cc_model.specs.declared.tokens.Token.{Token}
 use Rattle.cc_model.specs.declared.tokens.Kind.{Kind}
 use Rattle.cc_model.specs.declared.tokens.Punct.{Punct}
 use Rattle.cc_model.specs.declared.tokens.Punct.TheVariants as punct
 use Rattle.cc_model.specs.declared.trees.Expr.{Expr}
 use Rattle.cc_model.specs.declared.trees.Simple.{Simple}
-use Rattle.cc_model.specs.declared.trees.Simple.TheVariants as simple
 use Rattle.cc_model.specs.declared.trees.Head.{Head}
 use Rattle.cc_model.specs.declared.trees.Length.{Length}
 use Rattle.cc_model.specs.declared.trees.Declarator.{Declarator}
@@ -19,18 +17,14 @@ use Rattle.cc_model.specs.declared.trees.Stmt.TheVariants as stmt
 use Rattle.cc_model.specs.declared.trees.Part.{Part}
 use Rattle.cc_model.specs.declared.trees.Part.TheVariants as part
 use Rattle.cc_model.specs.declared.trees.Part.TheOpen as levels
-use Rattle.cc_model.specs.declared.trees.Part.TheFolds.{fold-Part, fold-Stmt, fold-roll-Part, fold-roll-Stmt}
+use Rattle.cc_model.specs.declared.trees.Part.TheFolds.{fold-Stmt, fold-roll-Part, fold-roll-Stmt}
 use Rattle.cc_model.specs.declared.trees.Item.{Item}
-use Rattle.cc_model.specs.declared.trees.Program.{Program}
-use Rattle.cc_model.specs.Spots.{Spot, opened, passed, back, closed, kind_at}
-use Rattle.cc_model.specs.ReadTypes as type
+use Rattle.cc_model.specs.Spots.{Spot}
 use Rattle.cc_model.specs.ReadStatements as rs
 use Rattle.cc_model.specs.ReadStatements.{Assignment, Stepping, assign_sign, behind_sign, before_sign}
-use Rattle.cc_model.specs.ReadItems as ri
-use Rattle.cc_model.specs.Reads.{Reads}
-use Rattle.cc_model.specs.CheckedProgram.{tokens_in, expression_if, simple_expressions, simple_expressions_if, start_expression, decl_expressions, head_expressions, part_expressions, stmt_expressions, expressions_of_part, item_expressions, expression_tokens}
-use Rattle.source_laws.specs.Tokens.{times}
-use Rattle.source_laws.proofs.Spans.{times_append, Spans, spans_none, spans_wider, spans_same, spans_both, spans_last, spans_alone, base_on, stars_on, typed_on, exp_spans, postfix_spans, bracketed_spans, arguments_spans, Between}
+use Rattle.cc_model.specs.CheckedProgram.{tokens_in, expression_if, simple_expressions, simple_expressions_if, start_expression, head_expressions, part_expressions, stmt_expressions, expressions_of_part, item_expressions}
+use Rattle.source_laws.proofs.Counting.{Spans, spans_none, spans_wider, spans_both, spans_last, spans_alone}
+use Rattle.source_laws.proofs.Spans.{base_on, stars_on, exp_spans, postfix_spans, bracketed_spans, arguments_spans, Between}
 
 -- the tokens of expressions
 abbrev pub toks : List Expr → List ℕ
@@ -51,7 +45,7 @@ of_declared p = toks (start_expression p.initializer)
 abbrev pub of_item : Item → List ℕ
 of_item i = toks (item_expressions i)
 
-toks_both : (l m : List Expr) → toks (l ++ m) ≡ toks l ++ toks m
+pub toks_both : (l m : List Expr) → toks (l ++ m) ≡ toks l ++ toks m
 toks_both l m = flat_map-append tokens_in l m
 
 pub toks_each : {A : Type 0} (g : A → List Expr) (l : List A) → toks (flat_map g l) ≡ flat_map (λ x. toks (g x)) l
@@ -282,28 +276,38 @@ module _ (tok : ℕ → Option Kind) (fits : ℕ → ℕ → Bool) where
     statement : {e : Bool} {s t : Spot} {a : Stmt} → rs.Statement tok fits e s t a → Between tok fits s t (of_stmt a)
     statement (rs.empty {s = s} i) = (omega arith, subst (Spans s.at (suc s.at)) (sym empty_is) (spans_none s.at (suc s.at)))
     statement (rs.block {s = s} {t = t} {l = l} h) = let x = block h in (x.0, subst (Spans s.at t.at) (sym (block_is l)) x.1)
-    statement (rs.if_alone {s = s} {t = t} {u = u} {e = e} {a = a} i h k) = let x = bracketed_spans tok fits h in let y = statement k in let x0 = x.0 in let y0 = y.0 in
-        (omega (arith, x0, y0), subst (Spans s.at u.at) (sym (if_is s.at e a)) (spans_both s.at t.at t.at u.at (tokens_in e) (of_stmt a) (omega (arith, x0)) (omega arith) y0
-        (spans_wider (suc s.at) t.at s.at t.at (tokens_in e) (omega arith) (omega arith) x.1) y.1))
+    statement (rs.if_alone {s = s} {t = t} {u = u} {e = e} {a = a} i h k) = let x = bracketed_spans tok fits h in let y = statement k in let x0 = x.0 in let y0 = y.0 in (
+      omega (arith, x0, y0),
+      subst (Spans s.at u.at) (sym (if_is s.at e a)) (spans_both s.at t.at t.at u.at (tokens_in e) (of_stmt a) (omega (arith, x0)) (omega arith) y0
+          (spans_wider (suc s.at) t.at s.at t.at (tokens_in e) (omega arith) (omega arith) x.1) y.1),
+    )
     statement (rs.if_else {s = s} {t = t} {u = u} {v = v} {e = e} {a = a} {c = c} i h k j m) =
-        let x = bracketed_spans tok fits h in let y = statement k in let z = statement m in let x0 = x.0 in let y0 = y.0 in let z0 = z.0 in
-        (omega (arith, x0, y0, z0), subst (Spans s.at v.at) (sym (if_else_is s.at e a c)) (spans_both s.at t.at t.at v.at (tokens_in e) (of_stmt a ++ of_stmt c) (omega (arith, x0)) (omega arith) (omega (arith, y0, z0))
-        (spans_wider (suc s.at) t.at s.at t.at (tokens_in e) (omega arith) (omega arith) x.1) (spans_both t.at u.at (suc u.at) v.at (of_stmt a) (of_stmt c) y0 (omega arith) z0 y.1 z.1)))
-    statement (rs.while {s = s} {t = t} {u = u} {e = e} {a = a} i h k) = let x = bracketed_spans tok fits h in let y = statement k in let x0 = x.0 in let y0 = y.0 in
-        (omega (arith, x0, y0), subst (Spans s.at u.at) (sym (while_is s.at e a)) (spans_both s.at t.at t.at u.at (tokens_in e) (of_stmt a) (omega (arith, x0)) (omega arith) y0
-        (spans_wider (suc s.at) t.at s.at t.at (tokens_in e) (omega arith) (omega arith) x.1) y.1))
-    statement (rs.do_while {s = s} {t = t} {u = u} {e = e} {a = a} i k j h m) = let x = bracketed_spans tok fits h in let y = statement k in let x0 = x.0 in let y0 = y.0 in
-        (omega (arith, x0, y0), subst (Spans s.at (suc u.at)) (sym (do_is s.at a e)) (spans_both s.at t.at (suc t.at) (suc u.at) (of_stmt a) (tokens_in e ++ []) (omega (arith, y0)) (omega arith) (omega (arith, x0))
-        (spans_wider (suc s.at) t.at s.at t.at (of_stmt a) (omega arith) (omega arith) y.1)
-        (spans_alone (suc t.at) (suc u.at) (tokens_in e) (spans_wider (suc t.at) u.at (suc t.at) (suc u.at) (tokens_in e) (omega arith) (omega arith) x.1))))
+        let x = bracketed_spans tok fits h in let y = statement k in let z = statement m in let x0 = x.0 in let y0 = y.0 in let z0 = z.0 in (
+          omega (arith, x0, y0, z0),
+          subst (Spans s.at v.at) (sym (if_else_is s.at e a c)) (spans_both s.at t.at t.at v.at (tokens_in e) (of_stmt a ++ of_stmt c) (omega (arith, x0)) (omega arith) (omega (arith, y0, z0))
+              (spans_wider (suc s.at) t.at s.at t.at (tokens_in e) (omega arith) (omega arith) x.1) (spans_both t.at u.at (suc u.at) v.at (of_stmt a) (of_stmt c) y0 (omega arith) z0 y.1 z.1)),
+        )
+    statement (rs.while {s = s} {t = t} {u = u} {e = e} {a = a} i h k) = let x = bracketed_spans tok fits h in let y = statement k in let x0 = x.0 in let y0 = y.0 in (
+      omega (arith, x0, y0),
+      subst (Spans s.at u.at) (sym (while_is s.at e a)) (spans_both s.at t.at t.at u.at (tokens_in e) (of_stmt a) (omega (arith, x0)) (omega arith) y0
+          (spans_wider (suc s.at) t.at s.at t.at (tokens_in e) (omega arith) (omega arith) x.1) y.1),
+    )
+    statement (rs.do_while {s = s} {t = t} {u = u} {e = e} {a = a} i k j h m) = let x = bracketed_spans tok fits h in let y = statement k in let x0 = x.0 in let y0 = y.0 in (
+      omega (arith, x0, y0),
+      subst (Spans s.at (suc u.at)) (sym (do_is s.at a e)) (spans_both s.at t.at (suc t.at) (suc u.at) (of_stmt a) (tokens_in e ++ []) (omega (arith, y0)) (omega arith) (omega (arith, x0))
+          (spans_wider (suc s.at) t.at s.at t.at (of_stmt a) (omega arith) (omega arith) y.1)
+          (spans_alone (suc t.at) (suc u.at) (tokens_in e) (spans_wider (suc t.at) u.at (suc t.at) (suc u.at) (tokens_in e) (omega arith) (omega arith) x.1))),
+    )
     statement (rs.for {s = s} {t = t} {u = u} {v = v} {w = w} {h = h} {c = c} {p = p} {a = a} i j k l m n o q) =
         let x = for_head k in let y = opt_expr l in let z = opt_simple n in let r = statement q in
         let x0 = x.0 in let y0 = y.0 in let z0 = z.0 in let r0 = r.0 in
-        let one = toks (head_expressions h) in let two = toks (expression_if c) in let three = toks (simple_expressions_if p) in
-        (omega (arith, x0, y0, z0, r0), subst (Spans s.at w.at) (sym (for_is s.at h c p a))
-        (spans_both s.at t.at t.at w.at one (two ++ (three ++ of_stmt a)) (omega (arith, x0)) (omega arith) (omega (arith, y0, z0, r0)) (spans_wider (suc (suc s.at)) t.at s.at t.at one (omega arith) (omega arith) x.1)
-        (spans_both t.at u.at (suc u.at) w.at two (three ++ of_stmt a) y0 (omega arith) (omega (arith, z0, r0)) y.1
-        (spans_both (suc u.at) v.at (suc v.at) w.at three (of_stmt a) z0 (omega arith) r0 z.1 r.1))))
+        let one = toks (head_expressions h) in let two = toks (expression_if c) in let three = toks (simple_expressions_if p) in (
+          omega (arith, x0, y0, z0, r0),
+          subst (Spans s.at w.at) (sym (for_is s.at h c p a))
+              (spans_both s.at t.at t.at w.at one (two ++ (three ++ of_stmt a)) (omega (arith, x0)) (omega arith) (omega (arith, y0, z0, r0)) (spans_wider (suc (suc s.at)) t.at s.at t.at one (omega arith) (omega arith) x.1)
+              (spans_both t.at u.at (suc u.at) w.at two (three ++ of_stmt a) y0 (omega arith) (omega (arith, z0, r0)) y.1
+              (spans_both (suc u.at) v.at (suc v.at) w.at three (of_stmt a) z0 (omega arith) r0 z.1 r.1))),
+        )
     statement (rs.return {s = s} {t = t} {a = a} i h j) = let x = opt_expr h in let x0 = x.0 in
         (omega (arith, x0), subst (Spans s.at (suc t.at)) (sym (return_is s.at a)) (spans_wider (suc s.at) t.at s.at (suc t.at) (toks (expression_if a)) (omega arith) (omega arith) x.1))
     statement (rs.break {s = s} i j) = (omega arith, subst (Spans s.at (suc (suc s.at))) (sym (break_is s.at)) (spans_none s.at (suc (suc s.at))))

@@ -1,9 +1,8 @@
 -- The expressions of a program have tokens of their own, item by item.
-use Rattle.std.proofs.Common.{◌≡◌, ℕ, suc, ◌≤◌, Bool, List, [], ◌∷◌, ◌++◌, flat_map, Option, refl, sym, subst, arith}
+use Rattle.std.proofs.Common.{ℕ, ◌≤◌, Bool, List, flat_map, Option, sym, subst, arith}
 use Rattle.cc_model.specs.declared.tokens.Token.{Token}
 use Rattle.cc_model.specs.declared.tokens.Kind.{Kind}
 use Rattle.cc_model.specs.declared.trees.ResultType.{ResultType}
-use Rattle.cc_model.specs.declared.trees.Declarator.{Declarator}
 use Rattle.cc_model.specs.declared.trees.Field.{Field}
 use Rattle.cc_model.specs.declared.trees.Param.{Param}
 use Rattle.cc_model.specs.declared.trees.ProtoParam.{ProtoParam}
@@ -17,7 +16,8 @@ use Rattle.cc_model.specs.ReadItems as ri
 use Rattle.cc_model.specs.Reads.{Reads}
 use Rattle.cc_model.specs.CheckedProgram.{item_expressions, expressions_of_part, expression_tokens}
 use Rattle.source_laws.specs.Tokens.{times}
-use Rattle.source_laws.proofs.Spans.{Spans, spans_none, spans_wider, spans_last, base_on, typed_on, Between}
+use Rattle.source_laws.proofs.Counting.{Spans, spans_none, spans_wider, spans_last}
+use Rattle.source_laws.proofs.Spans.{base_on, typed_on, Between}
 use Rattle.source_laws.proofs.SpansBodies.{of_part, of_item, toks_each, declares_on, block}
 
 module _ (tok : ℕ → Option Kind) (fits : ℕ → ℕ → Bool) where

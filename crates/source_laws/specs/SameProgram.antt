@@ -26,9 +26,9 @@ pub record SameLayer (y z : Layer) : Type 0 where
   pub clean : (u : Input) → y.clean u ≡ z.clean u
   pub terms : (u : Input) → y.terms u ≡ z.terms u
 
--- Within all bounds the programs have the same inputs, with the same run on each; and the traced runs on each, whatever forms
--- are kept, have the same events at the same sites, with the same outcomes, atoms, alternatives and terms, and the same places.
--- Only the numbers of types that stand at the places are others: `numbers` tells them.
+-- Within all bounds the programs have the same inputs, with the same run on each; and the traced runs on each, whatever
+-- forms are kept, have the same events at the same sites, with the same outcomes, atoms, alternatives and terms, and the
+-- same places. Only the numbers of types that stand at the places are others: `numbers` tells them.
 pub record SameProgram (p q : Program) : Type 0 where
   pub inputs : (b : Limits) (h : Input) → IsInput p b h ↔ IsInput q b h
   pub runs : (b : Limits) (h : Input) → run_of p b h ≡ run_of q b h

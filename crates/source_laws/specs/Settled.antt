@@ -1,5 +1,5 @@
--- What the tokens of a checked program's bodies owe to its tables: each has the entry that its node is resolved by. All of it is
--- this project's own.
+-- What the tokens of a checked program's bodies owe to its tables: each has the entry by which its node is resolved.
+-- All of it is this project's own.
 use Rattle.std.specs.Prelude.{ℕ, ◌≡◌, ◌<◌, List, [], ◌∷◌, ◌++◌, map, flat_map, length, slice_get, Option, Some}
 use Rattle.cc_model.specs.declared.checked.Ty.{Ty}
 use Rattle.cc_model.specs.declared.checked.Ty.TheVariants as ty
@@ -108,7 +108,8 @@ HasSlot (Some s) (Some (target.Local n)) = n < length s.slots
 HasSlot _ _ = ⊥
 
 module _ (c : Checked) where
-  -- a `malloc` gives a pointer, an index goes into an array, and a declared name of function k is that of one of its locals
+  -- a `malloc` gives a pointer, an index goes into an array, and a declared name of function k is that of one of its
+  -- locals
   abbrev pub IsPaid : ℕ → Due → Type 0
   IsPaid k (makes t) = IsPointer (expression_type c (expression_tokens (c.program).items) t 0)
   IsPaid k (indexes t) = IsArray (expression_type c (expression_tokens (c.program).items) t 1)

@@ -7,13 +7,14 @@ ghost use Rattle.cc_model.specs.declared.checked.Checked.{Checked};
 ghost use Rattle.cc_model.specs.declared.trees.Program as source;
 ghost use Rattle.cc_model.specs.Core.{Program};
 ghost use Rattle.cc_model.specs.Scopes.{Text};
+ghost use Rattle.cc_model.specs.Faults.{notes_in};
 ghost use Rattle.cc_model.specs.Reads.{Reads};
 ghost use Rattle.cc_model.specs.CheckedProgram.{IsChecked, core_of, expression_tokens};
 ghost use Rattle.cc_model.specs.Source.{IsProgram};
 ghost use Rattle.source_laws.specs.Renumbering.{Renumbers};
 ghost use Rattle.source_laws.specs.SameProgram.{SameProgram};
 ghost use Rattle.source_laws.specs.Settled.{IsSettled};
-ghost use Rattle.source_laws.specs.Tokens.{times};
+ghost use Rattle.source_laws.specs.Tokens.{times, typed_in};
 ghost use Rattle.source_laws.specs.OneSource.{SettlesAll};
 
 use c_parse::one_program;
@@ -34,6 +35,12 @@ pub fn one_tree_has_one_numbering()
 pub fn each_expression_has_its_own_token()
     ensures { (fits : ℕ → ℕ → Bool) (tokens : List Token) (p : source.Program) → Reads fits tokens p
         → (k : ℕ) → times k (expression_tokens p.items) ≤ 1 }
+{}
+
+/// What is said of a program tells the type of each token at most once.
+pub fn a_type_is_said_once()
+    ensures { (fits : ℕ → ℕ → Bool) (tokens : List Token) (p : source.Program) (text : ℕ → Text)
+        → Reads fits tokens p → (k : ℕ) → times k (typed_in (notes_in text p.items)) ≤ 1 }
 {}
 
 /// Two programs of the same source and tested function are the same program, where each is settled.
