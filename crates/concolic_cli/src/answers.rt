@@ -2,8 +2,8 @@
 
 ghost use Rattle.std.specs.Prelude.{◌≡◌, ◌++◌, ◌^◌, ◌<◌, ◌≤◌, IfOk, codes, true};
 ghost use Rattle.cc_outside.specs.Faults.{Rose};
-ghost use Rattle.concolic_cli.specs.Refusals.{bad_word_text, file_text, unread_text, tests_text, map_text_of, map_what, what_text};
-ghost use Rattle.concolic_cli.specs.Refusals.{refusal_line, Says, IsAnswered, wants_memory, status_of};
+ghost use Rattle.concolic_cli.specs.Refusals.{bad_word_text, file_text, unread_text, tests_text, map_text_of, map_what};
+ghost use Rattle.concolic_cli.specs.Refusals.{what_text, refusal_line, Says, IsAnswered, wants_memory, status_of};
 ghost use Rattle.cc_model.specs.Report.{newline};
 ghost use Rattle.concolic_cli.specs.Sources.{source_text, no_entry_text};
 ghost use Rattle.concolic_cli.specs.Named.{names_in};
