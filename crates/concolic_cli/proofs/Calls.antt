@@ -12,14 +12,17 @@ use Rattle.cc_model.specs.Runs.{end_at}
 use Rattle.cc_outside.specs.Faults.{Rose}
 use Rattle.input_map.specs.declared.faults.MapFault.{MapFault}
 use Rattle.concolic_cli.specs.declared.answers.Refused.{Refused}
+use Rattle.concolic_cli.specs.declared.refusal.FileWord.TheVariants as word
 use Rattle.concolic_cli.specs.declared.refusal.Refusal.{Refusal}
 use Rattle.concolic_cli.specs.declared.refusal.Refusal.TheVariants as refusal
+use Rattle.concolic_cli.specs.declared.refusal.Unread.{Unread}
+use Rattle.concolic_cli.specs.declared.refusal.Unread.TheVariants as unread
 use Rattle.concolic_cli.specs.Concolic.{Call, IsDone, done, made, IsUndone, bad, refused, unmade, Answered, quietly, aloud, SourceIsRefused, FileFault, NamesFile, its_source, its_tests, FileIsRefused, tests_of, names_of, made_names}
 use Rattle.concolic_cli.specs.Made.{made_source, made_entry}
 use Rattle.concolic_cli.specs.Named.{names_in}
-use Rattle.concolic_cli.specs.Refusals.{Names, bad_word_text, file_text, map_text_of, Says, IsAnswered}
+use Rattle.concolic_cli.specs.Refusals.{Names, bad_word_text, file_text, unread_text, map_text_of, Says, IsAnswered}
 use Rattle.concolic_cli.specs.Loaded.{source_limit, tests_limit, ReadAs}
-use Rattle.concolic_cli.specs.Session.{Seen, Wrote, WroteFirst, Stands, nothing, Cause, TestsRefused, SourceCause, WroteLast, WroteLastFirst, LastStands, no_line, MadeCause}
+use Rattle.concolic_cli.specs.Session.{Seen, Wrote, WroteFirst, Stands, nothing, UnreadCause, Cause, TestsRefused, SourceCause, WroteLast, WroteLastFirst, LastStands, no_line, MadeCause}
 use Rattle.concolic_cli.specs.Sources.{Refuses}
 use Rattle.cc_outside.specs.Held.{Held}
 use Rattle.replay.specs.ReplayText.{Written, all_real, one_real, one_differs}
@@ -153,6 +156,12 @@ module _ (call : Call) (status : ℕ) (task : Task) (a : Asks call.words task) w
   abbrev Said : List ℕ → Type 0
   Said text = Says call.err_old call.err_new call.err_faults_old call.err_faults_new (text ++ newline)
 
+  fault_of : (limit : ℕ) (name : List ℕ) (f : Unread) → UnreadCause limit (call.seen).held (call.seen).files_old (call.seen).files_new name f →
+      FileFault limit (call.seen).held (call.seen).files_old (call.seen).files_new name (unread_text f)
+  fault_of limit name unread.Missing h = inl (refl, h)
+  fault_of limit name unread.TooLong h = inr (inl (refl, h))
+  fault_of limit name unread.Failed h = inr (inr (refl, h))
+
   -- a file that is refused, with its text; or memory for the text is wanting
   at_named_file : (name : List ℕ) (limit : ℕ) → NamesFile (call.seen).held task name limit → (what : List ℕ) → FileFault limit (call.seen).held (call.seen).files_old (call.seen).files_new name what → (call.seen).out_new ≡ (call.seen).out_old →
       (status ≡ 4) × Said (file_text name what) → Ending call status
@@ -190,24 +199,16 @@ module _ (call : Call) (status : ℕ) (task : Task) (a : Asks call.words task) w
   ending_of : (why : Refusal) → Cause call.seen task why →
       IsAnswered call.err_old call.err_new call.err_faults_old call.err_faults_new (names_of task) why status → Ending call status
   ending_of (refusal.BadWord n) c h = absurd c
-  ending_of refusal.Missing c (inl h) = at_file_of (codes "missing") (inl (refl, c.0)) c.1 h
-  ending_of refusal.Missing c (inr h) = no_memory (nothing c.1) (h.1, h.2)
-  ending_of refusal.TooLong c (inl h) = at_file_of (codes "too long") (inr (inl (refl, c.0))) c.1 h
-  ending_of refusal.TooLong c (inr h) = no_memory (nothing c.1) (h.1, h.2)
-  ending_of refusal.FileFailed c (inl h) = at_file_of (codes "failed") (inr (inr (refl, c.0))) c.1 h
-  ending_of refusal.FileFailed c (inr h) = no_memory (nothing c.1) (h.1, h.2)
+  ending_of (refusal.File word.Source f) c (inl h) = at_file_of (unread_text f) (fault_of source_limit task.file f c.0) c.1 h
+  ending_of (refusal.File word.Source f) c (inr h) = no_memory (nothing c.1) (h.1, h.2)
+  ending_of (refusal.File word.Tests f) c (inl h) = at_tests_of (refusal.File word.Tests f) (unread_text f) c (fault_of tests_limit c.tests f c.cause) h
+  ending_of (refusal.File word.Tests f) c (inr h) = no_memory (nothing c.silent) (h.1, h.2)
   ending_of (refusal.Source line wrong) c (inl h) = at_source_of _ c.bytes c.read (inl c.cause) c.silent h
   ending_of (refusal.Source line wrong) c (inr h) = no_memory (nothing c.silent) (h.1, h.2)
   ending_of refusal.NoEntry c (inl h) = at_source_of _ c.bytes c.read (inl c.cause) c.silent h
   ending_of refusal.NoEntry c (inr h) = no_memory (nothing c.silent) (h.1, h.2)
   ending_of (refusal.Map f) c (inl h) = at_map task.work refl f c.bytes c.read c.cause c.silent h
   ending_of (refusal.Map f) c (inr h) = no_memory (nothing c.silent) (h.1, h.2)
-  ending_of refusal.TestsMissing c (inl h) = at_tests_of refusal.TestsMissing (codes "missing") c (inl (refl, c.cause)) h
-  ending_of refusal.TestsMissing c (inr h) = no_memory (nothing c.silent) (h.1, h.2)
-  ending_of refusal.TestsTooLong c (inl h) = at_tests_of refusal.TestsTooLong (codes "too long") c (inr (inl (refl, c.cause))) h
-  ending_of refusal.TestsTooLong c (inr h) = no_memory (nothing c.silent) (h.1, h.2)
-  ending_of refusal.TestsFailed c (inl h) = at_tests_of refusal.TestsFailed (codes "failed") c (inr (inr (refl, c.cause))) h
-  ending_of refusal.TestsFailed c (inr h) = no_memory (nothing c.silent) (h.1, h.2)
   ending_of (refusal.Tests line) c (inl h) =
       at_work (replay c.tests) c.named (refusal.Tests line) _ c.bytes c.read
       (inr (line, record { program = c.program; source = c.source; file = (c.cause).0; read = (c.cause).1; refused = ((c.cause).2).refused; none = ((c.cause).2).none }, refl)) c.silent h
@@ -232,13 +233,8 @@ module _ (call : Call) (status n : ℕ) where
   make_ending refusal.NoMemory c (inl h) = at_made_memory h.0 c h.1
   make_ending refusal.NoMemory c (inr h) = absurd (cc h.0)
   make_ending (refusal.BadWord k) c h = absurd c
-  make_ending refusal.Missing c h = absurd c
-  make_ending refusal.TooLong c h = absurd c
-  make_ending refusal.FileFailed c h = absurd c
+  make_ending (refusal.File w f) c h = absurd c
   make_ending (refusal.Map f) c h = absurd c
-  make_ending refusal.TestsMissing c h = absurd c
-  make_ending refusal.TestsTooLong c h = absurd c
-  make_ending refusal.TestsFailed c h = absurd c
   make_ending (refusal.Tests l) c h = absurd c
 
 abbrev AnswersAs : Call → ℕ → Refusal → Names → Type 0

@@ -14,6 +14,7 @@ use Rattle.input_map.specs.Maps.{IsMap}
 use Rattle.concolic_cli.specs.declared.refusal.Wrong.{Wrong}
 use Rattle.concolic_cli.specs.declared.refusal.Wrong.TheVariants as wrong
 use Rattle.concolic_cli.specs.declared.refusal.Refusal.{Refusal}
+use Rattle.concolic_cli.specs.declared.refusal.FileWord.TheVariants as word
 use Rattle.concolic_cli.specs.declared.refusal.Refusal.TheVariants as refused
 use Rattle.concolic_cli.specs.Made.{made_source, made_entry}
 use Rattle.concolic_cli.specs.Programs.{ReadsAs, IsLexical, IsFaulty, IsWrong, IsNoProgram}
@@ -49,14 +50,9 @@ pub no_program_cause : (bytes entry : List ℕ) (work : Work) (e : Refusal) → 
 no_program_cause bytes entry work (refused.Source line w) h = wrong_cause bytes entry line w h
 no_program_cause bytes entry work refused.NoMemory h = tt
 no_program_cause bytes entry work (refused.BadWord n) h = h
-no_program_cause bytes entry work refused.Missing h = h
-no_program_cause bytes entry work refused.TooLong h = h
-no_program_cause bytes entry work refused.FileFailed h = h
 no_program_cause bytes entry work refused.NoEntry h = no_entry h.0 h.1 (h.2).lexed (h.2).read (h.2).well_typed h.3
 no_program_cause bytes entry work (refused.Map f) h = absurd h
-no_program_cause bytes entry work refused.TestsMissing h = absurd h
-no_program_cause bytes entry work refused.TestsTooLong h = absurd h
-no_program_cause bytes entry work refused.TestsFailed h = absurd h
+no_program_cause bytes entry work (refused.File w f) h = absurd h
 no_program_cause bytes entry work (refused.Tests l) h = absurd h
 no_program_cause bytes entry work refused.OutputFailed h = h
 
@@ -80,31 +76,22 @@ map_cause bytes entry tokens c b map (refused.Map f) reads h whole =
 map_cause bytes entry tokens c b map refused.NoMemory reads h whole = tt
 map_cause bytes entry tokens c b map (refused.Source line w) reads h whole = absurd h
 map_cause bytes entry tokens c b map (refused.BadWord n) reads h whole = absurd h
-map_cause bytes entry tokens c b map refused.Missing reads h whole = absurd h
-map_cause bytes entry tokens c b map refused.TooLong reads h whole = absurd h
-map_cause bytes entry tokens c b map refused.FileFailed reads h whole = absurd h
+map_cause bytes entry tokens c b map (refused.File w f) reads h whole = absurd h
 map_cause bytes entry tokens c b map refused.NoEntry reads h whole = absurd h
 map_cause bytes entry tokens c b map refused.OutputFailed reads h whole = absurd h
-map_cause bytes entry tokens c b map refused.TestsMissing reads h whole = absurd h
-map_cause bytes entry tokens c b map refused.TestsTooLong reads h whole = absurd h
-map_cause bytes entry tokens c b map refused.TestsFailed reads h whole = absurd h
 map_cause bytes entry tokens c b map (refused.Tests l) reads h whole = absurd h
 
 -- ---- the file
 
 -- it is refused, and nothing was written
 pub file_cause : (seen : Seen) (task : Task) (e : Refusal) → FileCause seen.held seen.files_old seen.files_new task.file e → seen.out_new ≡ seen.out_old → Cause seen task e
-file_cause seen task refused.Missing h silent = (h, silent)
-file_cause seen task refused.TooLong h silent = (h, silent)
-file_cause seen task refused.FileFailed h silent = (h, silent)
+file_cause seen task (refused.File word.Source f) h silent = (h, silent)
+file_cause seen task (refused.File word.Tests f) h silent = absurd h
 file_cause seen task refused.NoMemory h silent = nothing silent
 file_cause seen task (refused.BadWord n) h silent = absurd h
 file_cause seen task (refused.Source line w) h silent = absurd h
 file_cause seen task refused.NoEntry h silent = absurd h
 file_cause seen task (refused.Map f) h silent = absurd h
-file_cause seen task refused.TestsMissing h silent = absurd h
-file_cause seen task refused.TestsTooLong h silent = absurd h
-file_cause seen task refused.TestsFailed h silent = absurd h
 file_cause seen task (refused.Tests l) h silent = absurd h
 file_cause seen task refused.OutputFailed h silent = absurd h
 
@@ -115,15 +102,10 @@ pub write_failed : (seen : Seen) (task : Task) (e : Refusal) → WroteFirst seen
 write_failed seen task refused.OutputFailed w h = (h, w)
 write_failed seen task refused.NoMemory w h = part w
 write_failed seen task (refused.BadWord n) w h = absurd h
-write_failed seen task refused.Missing w h = absurd h
-write_failed seen task refused.TooLong w h = absurd h
-write_failed seen task refused.FileFailed w h = absurd h
+write_failed seen task (refused.File u f) w h = absurd h
 write_failed seen task (refused.Source line wrong) w h = absurd h
 write_failed seen task refused.NoEntry w h = absurd h
 write_failed seen task (refused.Map f) w h = absurd h
-write_failed seen task refused.TestsMissing w h = absurd h
-write_failed seen task refused.TestsTooLong w h = absurd h
-write_failed seen task refused.TestsFailed w h = absurd h
 write_failed seen task (refused.Tests l) w h = absurd h
 
 -- ---- a source that is no program
@@ -138,13 +120,8 @@ source_refused seen task e bytes bytes' same read none silent = by_refusal e (no
     by_refusal (refused.Map f) h = record { bytes = bytes; read = read; cause = h; silent = silent }
     by_refusal refused.NoMemory h = nothing silent
     by_refusal (refused.BadWord n) h = absurd h
-    by_refusal refused.Missing h = absurd h
-    by_refusal refused.TooLong h = absurd h
-    by_refusal refused.FileFailed h = absurd h
+    by_refusal (refused.File w f) h = absurd h
     by_refusal refused.OutputFailed h = absurd h
-    by_refusal refused.TestsMissing h = absurd h
-    by_refusal refused.TestsTooLong h = absurd h
-    by_refusal refused.TestsFailed h = absurd h
     by_refusal (refused.Tests l) h = absurd h
 
 -- ---- `make`
@@ -156,14 +133,9 @@ module _ (n : ℕ) (old new : Option (List ℕ)) (faults_old faults_new : ℕ) w
   made_refused source refused.NoEntry same h silent = (subst (λ u. Refuses u made_entry (no_entry_text made_entry)) same (no_entry h.0 h.1 (h.2).lexed (h.2).read (h.2).well_typed h.3), silent)
   made_refused source refused.NoMemory same h silent = no_line silent
   made_refused source (refused.Map f) same h silent = absurd h
-  made_refused source refused.TestsMissing same h silent = absurd h
-  made_refused source refused.TestsTooLong same h silent = absurd h
-  made_refused source refused.TestsFailed same h silent = absurd h
+  made_refused source (refused.File w f) same h silent = absurd h
   made_refused source (refused.Tests l) same h silent = absurd h
   made_refused source (refused.BadWord k) same h silent = absurd h
-  made_refused source refused.Missing same h silent = absurd h
-  made_refused source refused.TooLong same h silent = absurd h
-  made_refused source refused.FileFailed same h silent = absurd h
   made_refused source refused.OutputFailed same h silent = absurd h
 
   -- its line failed
@@ -171,13 +143,8 @@ module _ (n : ℕ) (old new : Option (List ℕ)) (faults_old faults_new : ℕ) w
   line_failed refused.OutputFailed w h = (h, w)
   line_failed refused.NoMemory w h = first_part w
   line_failed (refused.BadWord k) w h = absurd h
-  line_failed refused.Missing w h = absurd h
-  line_failed refused.TooLong w h = absurd h
-  line_failed refused.FileFailed w h = absurd h
+  line_failed (refused.File u f) w h = absurd h
   line_failed (refused.Source line wrong) w h = absurd h
   line_failed refused.NoEntry w h = absurd h
   line_failed (refused.Map f) w h = absurd h
-  line_failed refused.TestsMissing w h = absurd h
-  line_failed refused.TestsTooLong w h = absurd h
-  line_failed refused.TestsFailed w h = absurd h
   line_failed (refused.Tests l) w h = absurd h

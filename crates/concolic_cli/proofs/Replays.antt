@@ -9,7 +9,9 @@ use Rattle.replay.specs.declared.tests_file.Tests.{Tests}
 use Rattle.replay.specs.Files.{IsTestsFile, IsRefusedAt}
 use Rattle.concolic_cli.specs.declared.prepared.Compiled.{Compiled}
 use Rattle.concolic_cli.specs.declared.refusal.Refusal.{Refusal}
+use Rattle.concolic_cli.specs.declared.refusal.FileWord.TheVariants as word
 use Rattle.concolic_cli.specs.declared.refusal.Refusal.TheVariants as refused
+use Rattle.concolic_cli.specs.declared.refusal.Unread.TheVariants as unread
 use Rattle.concolic_cli.specs.Compiling.{IsCompiled}
 use Rattle.concolic_cli.specs.Loaded.{ReadAs, ReadTests}
 use Rattle.concolic_cli.specs.Replaying.{TextRefused, WroteReplay, WroteReplayPart, ReplayCause}
@@ -26,15 +28,13 @@ rose_since a b c le (inl h) = inl (omega (arith, le, h))
 rose_since a b c le (inr h) = inr h
 
 since : (p : Program) (held : Option Held) (a b c : ℕ) (tests : List ℕ) (e : Refusal) → c ≤ a → TestsCause p held a b tests e → TestsCause p held c b tests e
-since p held a b c tests refused.TestsMissing le h = h
-since p held a b c tests refused.TestsTooLong le h = h
-since p held a b c tests refused.TestsFailed le h = rose_since a b c le h
+since p held a b c tests (refused.File word.Tests unread.Missing) le h = h
+since p held a b c tests (refused.File word.Tests unread.TooLong) le h = h
+since p held a b c tests (refused.File word.Tests unread.Failed) le h = rose_since a b c le h
+since p held a b c tests (refused.File word.Source f) le h = absurd h
 since p held a b c tests (refused.Tests line) le h = h
 since p held a b c tests refused.NoMemory le h = tt
 since p held a b c tests (refused.BadWord n) le h = absurd h
-since p held a b c tests refused.Missing le h = absurd h
-since p held a b c tests refused.TooLong le h = absurd h
-since p held a b c tests refused.FileFailed le h = absurd h
 since p held a b c tests (refused.Source line w) le h = absurd h
 since p held a b c tests refused.NoEntry le h = absurd h
 since p held a b c tests (refused.Map f) le h = absurd h
@@ -45,15 +45,10 @@ of_text : (p : Program) (held : Option Held) (a b : ℕ) (tests text : List ℕ)
 of_text p held a b tests text (refused.Tests line) read h = (text, read, h)
 of_text p held a b tests text refused.NoMemory read h = tt
 of_text p held a b tests text (refused.BadWord n) read h = absurd h
-of_text p held a b tests text refused.Missing read h = absurd h
-of_text p held a b tests text refused.TooLong read h = absurd h
-of_text p held a b tests text refused.FileFailed read h = absurd h
+of_text p held a b tests text (refused.File w f) read h = absurd h
 of_text p held a b tests text (refused.Source line w) read h = absurd h
 of_text p held a b tests text refused.NoEntry read h = absurd h
 of_text p held a b tests text (refused.Map f) read h = absurd h
-of_text p held a b tests text refused.TestsMissing read h = absurd h
-of_text p held a b tests text refused.TestsTooLong read h = absurd h
-of_text p held a b tests text refused.TestsFailed read h = absurd h
 of_text p held a b tests text refused.OutputFailed read h = absurd h
 
 module _ (seen : Seen) (file entry tests bytes bytes' : List ℕ) (same : bytes' ≡ bytes) (read : ReadAs seen.held file bytes) (c : Compiled) (is : IsCompiled bytes' entry c) where
@@ -61,15 +56,11 @@ module _ (seen : Seen) (file entry tests bytes bytes' : List ℕ) (same : bytes'
   source = let i = subst (λ u. IsCompiled u entry c) same is in program_of bytes entry i.tokens c.checked i.reads
 
   refused_by : (e : Refusal) → TestsCause (core_of c.checked) seen.held seen.files_old seen.files_new tests e → seen.out_new ≡ seen.out_old → Cause seen (record { file = file; entry = entry; work = replay tests }) e
-  refused_by refused.TestsMissing h silent = record { tests = tests; named = refl; bytes = bytes; read = read; program = core_of c.checked; source = source; cause = h; silent = silent }
-  refused_by refused.TestsTooLong h silent = record { tests = tests; named = refl; bytes = bytes; read = read; program = core_of c.checked; source = source; cause = h; silent = silent }
-  refused_by refused.TestsFailed h silent = record { tests = tests; named = refl; bytes = bytes; read = read; program = core_of c.checked; source = source; cause = h; silent = silent }
+  refused_by (refused.File word.Tests f) h silent = record { tests = tests; named = refl; bytes = bytes; read = read; program = core_of c.checked; source = source; cause = h; silent = silent }
   refused_by (refused.Tests line) h silent = record { tests = tests; named = refl; bytes = bytes; read = read; program = core_of c.checked; source = source; cause = h; silent = silent }
   refused_by refused.NoMemory h silent = nothing silent
   refused_by (refused.BadWord n) h silent = absurd h
-  refused_by refused.Missing h silent = absurd h
-  refused_by refused.TooLong h silent = absurd h
-  refused_by refused.FileFailed h silent = absurd h
+  refused_by (refused.File word.Source f) h silent = absurd h
   refused_by (refused.Source line w) h silent = absurd h
   refused_by refused.NoEntry h silent = absurd h
   refused_by (refused.Map f) h silent = absurd h
@@ -137,13 +128,8 @@ module _ (seen : Seen) (file entry tests bytes bytes' : List ℕ) (same : bytes'
       write_refused refused.NoMemory (inl silent) = nothing silent
       write_refused refused.NoMemory (inr w) = part (begun w)
       write_refused (refused.BadWord n) h = absurd h
-      write_refused refused.Missing h = absurd h
-      write_refused refused.TooLong h = absurd h
-      write_refused refused.FileFailed h = absurd h
+      write_refused (refused.File w f) h = absurd h
       write_refused (refused.Source line w) h = absurd h
       write_refused refused.NoEntry h = absurd h
       write_refused (refused.Map f) h = absurd h
-      write_refused refused.TestsMissing h = absurd h
-      write_refused refused.TestsTooLong h = absurd h
-      write_refused refused.TestsFailed h = absurd h
       write_refused (refused.Tests line) h = absurd h

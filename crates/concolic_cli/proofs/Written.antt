@@ -30,15 +30,10 @@ cause_after old middle new refused.OutputFailed le (inl h) = inl (omega (arith, 
 cause_after old middle new refused.OutputFailed le (inr h) = inr h
 cause_after old middle new refused.NoMemory le h = tt
 cause_after old middle new (refused.BadWord n) le h = absurd h
-cause_after old middle new refused.Missing le h = absurd h
-cause_after old middle new refused.TooLong le h = absurd h
-cause_after old middle new refused.FileFailed le h = absurd h
+cause_after old middle new (refused.File w f) le h = absurd h
 cause_after old middle new (refused.Source line wrong) le h = absurd h
 cause_after old middle new refused.NoEntry le h = absurd h
 cause_after old middle new (refused.Map f) le h = absurd h
-cause_after old middle new refused.TestsMissing le h = absurd h
-cause_after old middle new refused.TestsTooLong le h = absurd h
-cause_after old middle new refused.TestsFailed le h = absurd h
 cause_after old middle new (refused.Tests l) le h = absurd h
 
 -- ---- the report on a search

@@ -23,7 +23,7 @@ use Rattle.search_dfs.specs.Missed.{MissesNoMore}
 use Rattle.concolic_cli.specs.Made.{made_source, made_entry}
 use Rattle.concolic_cli.specs.Named.{names_in}
 use Rattle.concolic_cli.specs.Loaded.{source_limit, tests_limit, ReadAs, IsMissing, IsTooLong}
-use Rattle.concolic_cli.specs.Refusals.{Names, bad_word_text, file_text, Says, IsAnswered}
+use Rattle.concolic_cli.specs.Refusals.{Names, file_text, Says, IsAnswered}
 use Rattle.concolic_cli.specs.Session.{Seen, Wrote, Stands, Cause, WroteLast, LastStands, MadeCause}
 use Rattle.concolic_cli.specs.Sources.{Refuses}
 use Rattle.concolic_cli.specs.Tasks.{Task, Work, list, walk, trace, replay, Asks, IsAfter, word_of, RefusesTask}

@@ -15,7 +15,7 @@ use Rattle.concolic_cli.specs.Sources.{offset_of, what_of}
 use Rattle.concolic_cli.specs.declared.refusal.Wrong.{Wrong}
 use Rattle.concolic_cli.specs.declared.refusal.Wrong.TheVariants.{BadByte, BadNumber, OpenComment, BadDirective, Syntax, TooDeep, UnknownName, DeclaredTwice, Mismatch, TooLarge}
 use Rattle.concolic_cli.specs.declared.refusal.Refusal.{Refusal}
-use Rattle.concolic_cli.specs.declared.refusal.Refusal.TheVariants.{BadWord, Missing, TooLong, FileFailed, Source, NoEntry, Map, TestsMissing, TestsTooLong, TestsFailed, Tests, OutputFailed, NoMemory}
+use Rattle.concolic_cli.specs.declared.refusal.Refusal.TheVariants.{BadWord, File, Source, NoEntry, Map, Tests, OutputFailed, NoMemory}
 
 -- the bytes are these tokens, and the program that these are is checked, to test the function with this name
 pub record ReadsAs (bytes entry : List ℕ) (tokens : List Token) (checked : Checked) : Type 0 where
@@ -66,12 +66,7 @@ IsNoProgram bytes entry (Source line wrong) = IsWrong bytes line wrong
 IsNoProgram bytes entry NoEntry = (tokens : List Token) × (tree : Program) × IsWellTyped bytes tokens tree × (has_entry (text_at bytes tokens) tree.items entry ≡ false)
 IsNoProgram bytes entry NoMemory = Unit {0}
 IsNoProgram bytes entry (BadWord n) = ⊥
-IsNoProgram bytes entry Missing = ⊥
-IsNoProgram bytes entry TooLong = ⊥
-IsNoProgram bytes entry FileFailed = ⊥
+IsNoProgram bytes entry (File w f) = ⊥
 IsNoProgram bytes entry (Map f) = ⊥
-IsNoProgram bytes entry TestsMissing = ⊥
-IsNoProgram bytes entry TestsTooLong = ⊥
-IsNoProgram bytes entry TestsFailed = ⊥
 IsNoProgram bytes entry (Tests line) = ⊥
 IsNoProgram bytes entry OutputFailed = ⊥

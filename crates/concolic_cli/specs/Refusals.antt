@@ -7,10 +7,14 @@ use Rattle.cc_model.specs.Report.{newline}
 use Rattle.concolic_cli.specs.Sources.{source_text, no_entry_text}
 use Rattle.cc_outside.specs.Faults.{Rose}
 use Rattle.cc_outside.specs.Told.{appended, WritesPart}
+use Rattle.concolic_cli.specs.declared.refusal.FileWord.{FileWord}
+use Rattle.concolic_cli.specs.declared.refusal.FileWord.TheVariants as word
+use Rattle.concolic_cli.specs.declared.refusal.Unread.{Unread}
+use Rattle.concolic_cli.specs.declared.refusal.Unread.TheVariants as unread
 use Rattle.concolic_cli.specs.declared.refusal.Wrong.{Wrong}
 use Rattle.concolic_cli.specs.declared.refusal.Wrong.TheVariants.{BadByte, BadNumber, OpenComment, BadDirective, Syntax, TooDeep, UnknownName, DeclaredTwice, Mismatch, TooLarge}
 use Rattle.concolic_cli.specs.declared.refusal.Refusal.{Refusal}
-use Rattle.concolic_cli.specs.declared.refusal.Refusal.TheVariants.{BadWord, Missing, TooLong, FileFailed, Source, NoEntry, Map, TestsMissing, TestsTooLong, TestsFailed, Tests, OutputFailed, NoMemory}
+use Rattle.concolic_cli.specs.declared.refusal.Refusal.TheVariants.{BadWord, File, Source, NoEntry, Map, Tests, OutputFailed, NoMemory}
 
 abbrev pub what_text : Wrong → List ℕ
 what_text BadByte = codes "bad byte"
@@ -27,6 +31,12 @@ what_text TooLarge = codes "too large"
 -- file NAME: WHAT
 abbrev pub file_text : List ℕ → List ℕ → List ℕ
 file_text file what = codes "file " ++ file ++ codes ": " ++ what
+
+-- why a file was not read
+abbrev pub unread_text : Unread → List ℕ
+unread_text unread.Missing = codes "missing"
+unread_text unread.TooLong = codes "too long"
+unread_text unread.Failed = codes "failed"
 
 abbrev pub bad_word_text : ℕ → List ℕ
 bad_word_text n = codes "bad word " ++ decimal n
@@ -65,18 +75,18 @@ pub record Names : Type 0 where
   pub entry : List ℕ
   pub tests : List ℕ
 
+-- the word that names a file
+abbrev pub file_word : Names → FileWord → List ℕ
+file_word names word.Source = names.file
+file_word names word.Tests = names.tests
+
 -- the text of a refusal, for the words FILE, ENTRY and TESTS
 abbrev pub refusal_text : Names → Refusal → List ℕ
 refusal_text names (BadWord n) = bad_word_text n
-refusal_text names Missing = file_text names.file (codes "missing")
-refusal_text names TooLong = file_text names.file (codes "too long")
-refusal_text names FileFailed = file_text names.file (codes "failed")
+refusal_text names (File w f) = file_text (file_word names w) (unread_text f)
 refusal_text names (Source line wrong) = source_text line (what_text wrong)
 refusal_text names NoEntry = no_entry_text names.entry
 refusal_text names (Map fault) = map_text_of fault
-refusal_text names TestsMissing = file_text names.tests (codes "missing")
-refusal_text names TestsTooLong = file_text names.tests (codes "too long")
-refusal_text names TestsFailed = file_text names.tests (codes "failed")
 refusal_text names (Tests line) = tests_text line
 refusal_text names OutputFailed = codes "output failed"
 refusal_text names NoMemory = codes "no memory"
@@ -88,15 +98,10 @@ refusal_line names e = refusal_text names e ++ newline
 -- the status of a refusal
 abbrev pub status_of : Refusal → ℕ
 status_of (BadWord n) = 2
-status_of Missing = 4
-status_of TooLong = 4
-status_of FileFailed = 4
+status_of (File w f) = 4
 status_of (Source line wrong) = 3
 status_of NoEntry = 3
 status_of (Map fault) = 3
-status_of TestsMissing = 4
-status_of TestsTooLong = 4
-status_of TestsFailed = 4
 status_of (Tests line) = 3
 status_of OutputFailed = 5
 status_of NoMemory = 7
@@ -104,15 +109,10 @@ status_of NoMemory = 7
 -- a text that holds the name of a file or of a function takes memory, and so does one with a number
 abbrev pub wants_memory : Refusal → Bool
 wants_memory (BadWord n) = false
-wants_memory Missing = true
-wants_memory TooLong = true
-wants_memory FileFailed = true
+wants_memory (File w f) = true
 wants_memory (Source line wrong) = true
 wants_memory NoEntry = true
 wants_memory (Map fault) = true
-wants_memory TestsMissing = true
-wants_memory TestsTooLong = true
-wants_memory TestsFailed = true
 wants_memory (Tests line) = true
 wants_memory OutputFailed = false
 wants_memory NoMemory = false

@@ -43,15 +43,10 @@ abbrev pub TextRefused : Program → List ℕ → Refusal → Type 0
 TextRefused p file (refusal.Tests line) = LinesRefused p file line
 TextRefused p file refusal.NoMemory = Unit {0}
 TextRefused p file (refusal.BadWord n) = ⊥
-TextRefused p file refusal.Missing = ⊥
-TextRefused p file refusal.TooLong = ⊥
-TextRefused p file refusal.FileFailed = ⊥
+TextRefused p file (refusal.File w f) = ⊥
 TextRefused p file (refusal.Source line wrong) = ⊥
 TextRefused p file refusal.NoEntry = ⊥
 TextRefused p file (refusal.Map f) = ⊥
-TextRefused p file refusal.TestsMissing = ⊥
-TextRefused p file refusal.TestsTooLong = ⊥
-TextRefused p file refusal.TestsFailed = ⊥
 TextRefused p file refusal.OutputFailed = ⊥
 
 -- the line for the tests was written, with this status
@@ -73,13 +68,8 @@ abbrev pub ReplayCause : Program → Tests → (old new : Option (List ℕ)) →
 ReplayCause p t old new a b refusal.OutputFailed = Rose a b × WroteReplayPart p t old new
 ReplayCause p t old new a b refusal.NoMemory = (new ≡ old) ⊎ WroteReplayPart p t old new
 ReplayCause p t old new a b (refusal.BadWord n) = ⊥
-ReplayCause p t old new a b refusal.Missing = ⊥
-ReplayCause p t old new a b refusal.TooLong = ⊥
-ReplayCause p t old new a b refusal.FileFailed = ⊥
+ReplayCause p t old new a b (refusal.File w f) = ⊥
 ReplayCause p t old new a b (refusal.Source line wrong) = ⊥
 ReplayCause p t old new a b refusal.NoEntry = ⊥
 ReplayCause p t old new a b (refusal.Map f) = ⊥
-ReplayCause p t old new a b refusal.TestsMissing = ⊥
-ReplayCause p t old new a b refusal.TestsTooLong = ⊥
-ReplayCause p t old new a b refusal.TestsFailed = ⊥
 ReplayCause p t old new a b (refusal.Tests line) = ⊥

@@ -8,8 +8,11 @@ use Rattle.cc_outside.specs.Told.{appended, WritesPart}
 use Rattle.input_map.specs.declared.faults.MapFault.{MapFault}
 use Rattle.input_map.specs.CellFaults.{Refused}
 use Rattle.concolic_cli.specs.declared.answers.Status.{Status}
+use Rattle.concolic_cli.specs.declared.refusal.FileWord.TheVariants as word
 use Rattle.concolic_cli.specs.declared.refusal.Refusal.{Refusal}
-use Rattle.concolic_cli.specs.declared.refusal.Refusal.TheVariants.{BadWord, Missing, TooLong, FileFailed, Source, NoEntry, Map, TestsMissing, TestsTooLong, TestsFailed, Tests, OutputFailed, NoMemory}
+use Rattle.concolic_cli.specs.declared.refusal.Refusal.TheVariants.{BadWord, File, Source, NoEntry, Map, Tests, OutputFailed, NoMemory}
+use Rattle.concolic_cli.specs.declared.refusal.Unread.{Unread}
+use Rattle.concolic_cli.specs.declared.refusal.Unread.TheVariants as unread
 use Rattle.concolic_cli.specs.Made.{made_source, made_entry}
 use Rattle.concolic_cli.specs.Refusals.{what_text}
 use Rattle.concolic_cli.specs.Sources.{Refuses, source_text, no_entry_text}
@@ -19,19 +22,21 @@ use Rattle.cc_base.specs.declared.inputs.Test.{Test}
 use Rattle.replay.specs.Files.{IsTestsFile, IsRefusedAt}
 use Rattle.concolic_cli.specs.Tasks.{Task, Work, list, walk, trace, replay, IsReport, MayStand, MakesAs, MapIsRefused}
 
+-- why a file isn't read
+abbrev pub UnreadCause : (limit : ℕ) → Option Held → (faults_old faults_new : ℕ) → List ℕ → Unread → Type 0
+UnreadCause limit held old new file unread.Missing = IsMissing held file
+UnreadCause limit held old new file unread.TooLong = IsTooLong limit held file
+UnreadCause limit held old new file unread.Failed = Rose old new
+
 -- the cause of a refusal of the file
 abbrev pub FileCause : Option Held → (faults_old faults_new : ℕ) → List ℕ → Refusal → Type 0
-FileCause held old new file Missing = IsMissing held file
-FileCause held old new file TooLong = IsTooLong source_limit held file
-FileCause held old new file FileFailed = Rose old new
+FileCause held old new file (File word.Source f) = UnreadCause source_limit held old new file f
+FileCause held old new file (File word.Tests f) = ⊥
 FileCause held old new file NoMemory = Unit {0}
 FileCause held old new file (BadWord n) = ⊥
 FileCause held old new file (Source line wrong) = ⊥
 FileCause held old new file NoEntry = ⊥
 FileCause held old new file (Map f) = ⊥
-FileCause held old new file TestsMissing = ⊥
-FileCause held old new file TestsTooLong = ⊥
-FileCause held old new file TestsFailed = ⊥
 FileCause held old new file (Tests line) = ⊥
 FileCause held old new file OutputFailed = ⊥
 
@@ -49,12 +54,7 @@ SourceCause bytes entry work NoEntry = Refuses bytes entry (no_entry_text entry)
 SourceCause bytes entry work (Map f) = MapRefusedCause bytes entry work f
 SourceCause bytes entry work NoMemory = Unit {0}
 SourceCause bytes entry work (BadWord n) = ⊥
-SourceCause bytes entry work Missing = ⊥
-SourceCause bytes entry work TooLong = ⊥
-SourceCause bytes entry work FileFailed = ⊥
-SourceCause bytes entry work TestsMissing = ⊥
-SourceCause bytes entry work TestsTooLong = ⊥
-SourceCause bytes entry work TestsFailed = ⊥
+SourceCause bytes entry work (File w f) = ⊥
 SourceCause bytes entry work (Tests line) = ⊥
 SourceCause bytes entry work OutputFailed = ⊥
 
@@ -63,14 +63,9 @@ abbrev pub MapCause : Program → Limits → List ℕ → Refusal → Type 0
 MapCause p b text (Map fault) = Refused p b text fault
 MapCause p b text NoMemory = Unit {0}
 MapCause p b text (BadWord n) = ⊥
-MapCause p b text Missing = ⊥
-MapCause p b text TooLong = ⊥
-MapCause p b text FileFailed = ⊥
+MapCause p b text (File w f) = ⊥
 MapCause p b text (Source line wrong) = ⊥
 MapCause p b text NoEntry = ⊥
-MapCause p b text TestsMissing = ⊥
-MapCause p b text TestsTooLong = ⊥
-MapCause p b text TestsFailed = ⊥
 MapCause p b text (Tests line) = ⊥
 MapCause p b text OutputFailed = ⊥
 
@@ -79,15 +74,10 @@ abbrev pub WriteCause : (faults_old faults_new : ℕ) → Refusal → Type 0
 WriteCause old new OutputFailed = Rose old new
 WriteCause old new NoMemory = Unit {0}
 WriteCause old new (BadWord n) = ⊥
-WriteCause old new Missing = ⊥
-WriteCause old new TooLong = ⊥
-WriteCause old new FileFailed = ⊥
+WriteCause old new (File w f) = ⊥
 WriteCause old new (Source line wrong) = ⊥
 WriteCause old new NoEntry = ⊥
 WriteCause old new (Map f) = ⊥
-WriteCause old new TestsMissing = ⊥
-WriteCause old new TestsTooLong = ⊥
-WriteCause old new TestsFailed = ⊥
 WriteCause old new (Tests line) = ⊥
 
 -- the line is the first with a fault of the text, which is no tests file
@@ -97,15 +87,11 @@ pub record LinesRefused (p : Program) (file : List ℕ) (line : ℕ) : Type 0 wh
 
 -- the cause of a refusal of the tests file of a program
 abbrev pub TestsCause : Program → Option Held → (faults_old faults_new : ℕ) → List ℕ → Refusal → Type 0
-TestsCause p held old new tests TestsMissing = IsMissing held tests
-TestsCause p held old new tests TestsTooLong = IsTooLong tests_limit held tests
-TestsCause p held old new tests TestsFailed = Rose old new
+TestsCause p held old new tests (File word.Tests f) = UnreadCause tests_limit held old new tests f
+TestsCause p held old new tests (File word.Source f) = ⊥
 TestsCause p held old new tests (Tests line) = (file : List ℕ) × ReadTests held tests file × LinesRefused p file line
 TestsCause p held old new tests NoMemory = Unit {0}
 TestsCause p held old new tests (BadWord n) = ⊥
-TestsCause p held old new tests Missing = ⊥
-TestsCause p held old new tests TooLong = ⊥
-TestsCause p held old new tests FileFailed = ⊥
 TestsCause p held old new tests (Source line wrong) = ⊥
 TestsCause p held old new tests NoEntry = ⊥
 TestsCause p held old new tests (Map f) = ⊥
@@ -182,15 +168,11 @@ module _ (seen : Seen) (task : Task) where
   -- the cause of a refusal
   abbrev pub Cause : Refusal → Type 0
   Cause (BadWord n) = ⊥
-  Cause Missing = FileRefused Missing
-  Cause TooLong = FileRefused TooLong
-  Cause FileFailed = FileRefused FileFailed
+  Cause (File word.Source f) = FileRefused (File word.Source f)
+  Cause (File word.Tests f) = TestsRefused (File word.Tests f)
   Cause (Source line wrong) = SourceRefused (Source line wrong)
   Cause NoEntry = SourceRefused NoEntry
   Cause (Map f) = SourceRefused (Map f)
-  Cause TestsMissing = TestsRefused TestsMissing
-  Cause TestsTooLong = TestsRefused TestsTooLong
-  Cause TestsFailed = TestsRefused TestsFailed
   Cause (Tests line) = TestsRefused (Tests line)
   Cause OutputFailed = Rose seen.faults_old seen.faults_new × WroteFirst seen.held seen.out_old seen.out_new task
   Cause NoMemory = Stands seen.held seen.out_old seen.out_new task
@@ -231,13 +213,8 @@ module _ (n : ℕ) (out_old out_new : Option (List ℕ)) (faults_old faults_new 
   MadeCause OutputFailed = Rose faults_old faults_new × WroteLastFirst n out_old out_new
   MadeCause NoMemory = LastStands n out_old out_new
   MadeCause (BadWord k) = ⊥
-  MadeCause Missing = ⊥
-  MadeCause TooLong = ⊥
-  MadeCause FileFailed = ⊥
+  MadeCause (File w f) = ⊥
   MadeCause (Map f) = ⊥
-  MadeCause TestsMissing = ⊥
-  MadeCause TestsTooLong = ⊥
-  MadeCause TestsFailed = ⊥
   MadeCause (Tests line) = ⊥
 
   -- `make` ends with status 0 and its line, or with a refusal and its cause

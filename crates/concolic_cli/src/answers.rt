@@ -2,13 +2,13 @@
 
 ghost use Rattle.std.specs.Prelude.{◌≡◌, ◌++◌, ◌^◌, ◌<◌, ◌≤◌, IfOk, codes, true};
 ghost use Rattle.cc_outside.specs.Faults.{Rose};
-ghost use Rattle.concolic_cli.specs.Refusals.{bad_word_text, file_text, tests_text, map_text_of, map_what, what_text};
-ghost use Rattle.concolic_cli.specs.Refusals.{refusal_line, Says, IsAnswered, wants_memory, status_of};
+ghost use Rattle.concolic_cli.specs.Refusals.{bad_word_text, file_text, unread_text, tests_text, map_text_of, map_what};
+ghost use Rattle.concolic_cli.specs.Refusals.{what_text, refusal_line, Says, IsAnswered, wants_memory, status_of};
 ghost use Rattle.cc_model.specs.Report.{newline};
 ghost use Rattle.concolic_cli.specs.Sources.{source_text, no_entry_text};
 ghost use Rattle.concolic_cli.specs.Named.{names_in};
 
-use crate::refusal::{Refusal, Wrong};
+use crate::refusal::{FileWord, Refusal, Unread, Wrong};
 use arrayvec::ArrayString;
 use cc_model::base::NoMemory;
 use cc_outside::Sink;
@@ -42,6 +42,17 @@ fn file_line(alloc: Global, file: &str, what: &str) -> Result<Vec<u8>, NoMemory>
     line.extend_from_slice(what.as_bytes())?;
     line.push(b'\n')?;
     Ok(line)
+}
+
+/// Why a file was not read.
+fn unread(why: Unread) -> &'static str
+    ensures { result.now ≡ unread_text why }
+{
+    match why {
+        Unread::Missing => "missing",
+        Unread::TooLong => "too long",
+        Unread::Failed => "failed",
+    }
 }
 
 fn what(wrong: Wrong) -> &'static str
@@ -156,15 +167,11 @@ fn line_of(alloc: Global, refusal: Refusal, named: Named<'_>) -> Result<Vec<u8>,
     ensures { IfOk result (λ line. line.items ≡ refusal_line (names_in named.entry) refusal) }
 {
     match refusal {
-        Refusal::Missing => file_line(alloc, named.file, "missing"),
-        Refusal::TooLong => file_line(alloc, named.file, "too long"),
-        Refusal::FileFailed => file_line(alloc, named.file, "failed"),
+        Refusal::File(FileWord::Source, why) => file_line(alloc, named.file, unread(why)),
+        Refusal::File(FileWord::Tests, why) => file_line(alloc, named.tests, unread(why)),
         Refusal::Source(line, wrong) => source_line(alloc, line, wrong),
         Refusal::NoEntry => no_entry_line(alloc, named.entry),
         Refusal::Map(fault) => map_line(alloc, fault),
-        Refusal::TestsMissing => file_line(alloc, named.tests, "missing"),
-        Refusal::TestsTooLong => file_line(alloc, named.tests, "too long"),
-        Refusal::TestsFailed => file_line(alloc, named.tests, "failed"),
         Refusal::Tests(line) => tests_line(alloc, line),
         Refusal::BadWord(_) | Refusal::OutputFailed | Refusal::NoMemory => { unreachable!() }
     }
@@ -213,12 +220,7 @@ pub fn refuse<E: Sink>(alloc: Global, refusal: Refusal, named: Named<'_>, err: &
             say(err, b"no memory\n");
             Status(7)
         }
-        Refusal::Missing
-        | Refusal::TooLong
-        | Refusal::FileFailed
-        | Refusal::TestsMissing
-        | Refusal::TestsTooLong
-        | Refusal::TestsFailed => refuse_by_line(alloc, refusal, 4, named, err),
+        Refusal::File(_, _) => refuse_by_line(alloc, refusal, 4, named, err),
         Refusal::Source(_, _) | Refusal::NoEntry | Refusal::Map(_) | Refusal::Tests(_) => {
             refuse_by_line(alloc, refusal, 3, named, err)
         }

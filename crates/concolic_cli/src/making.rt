@@ -91,16 +91,11 @@ pub fn write_made<K: Sink>(alloc: Global, branches: u32, out: &mut K) -> Result<
     let Ok(source) = made_source(alloc, branches) else {
         return Err(Refusal::NoMemory);
     };
-    let compiled = match compile(alloc, &source, "f") {
-        Ok(compiled) => compiled,
-        Err(refusal) => return Err(refusal),
-    };
+    let compiled = compile(alloc, &source, "f")?;
     let bounds = made_bounds(branches);
     let Ok(line) = searched_line(alloc, &compiled, &bounds, branches + 1) else {
         return Err(Refusal::NoMemory);
     };
-    match write_line(out, &line) {
-        Ok(()) => Ok(Status(0)),
-        Err(refusal) => Err(refusal),
-    }
+    write_line(out, &line)?;
+    Ok(Status(0))
 }

@@ -64,10 +64,8 @@ pub fn compile(alloc: Global, source: &[u8], entry: &str) -> Result<Compiled, Re
     ensures refused { IfErr result (λ e. IsNoProgram source.now entry.now e) }
 {
     a_checked_program_points_to_cells();
-    let Source { checked, .. } = match read_program(alloc, source, entry) {
-        Ok(read) => read,
-        Err(refusal) => return Err(refusal),
-    };
+    let read = read_program(alloc, source, entry)?;
+    let Source { checked, .. } = read;
     match lower(alloc, &checked) {
         Ok(tac) => Ok(Compiled { checked, tac }),
         Err(NoMemory) => Err(Refusal::NoMemory),
@@ -93,15 +91,9 @@ pub fn prepare_trace(
     ensures traced { IfOk result (λ t. IsTraced source.now entry.now map.now bounds.now t) }
     ensures refused { IfErr result (λ e. SourceCause source.now entry.now (trace bounds.now map.now) e) }
 {
-    let read = match read_program(alloc, source, entry) {
-        Ok(read) => read,
-        Err(refusal) => return Err(refusal),
-    };
+    let read = read_program(alloc, source, entry)?;
     let Source { checked, .. } = read;
-    let input = match read_input(alloc, map.as_bytes(), &checked, bounds) {
-        Ok(input) => input,
-        Err(refusal) => return Err(refusal),
-    };
+    let input = read_input(alloc, map.as_bytes(), &checked, bounds)?;
     match run_on(alloc, &checked, &input, bounds) {
         Ok(trace) => Ok(Traced { checked, trace }),
         Err(NoMemory) => Err(Refusal::NoMemory),

@@ -34,29 +34,39 @@ pub enum Wrong {
     TooLarge,
 }
 
+/// A word that names a file.
+#[derive(Clone, Copy)]
+pub enum FileWord {
+    /// FILE, a source of at most 1,048,576 bytes.
+    Source,
+    /// TESTS, of at most 16,777,216 bytes.
+    Tests,
+}
+
+/// Why a file was not read.
+#[derive(Clone, Copy)]
+pub enum Unread {
+    /// There is none of that name.
+    Missing,
+    /// It has more bytes than it may have.
+    TooLong,
+    /// The files failed.
+    Failed,
+}
+
 /// Why a call is refused.
 #[derive(Clone, Copy)]
 pub enum Refusal {
     /// The number of the bad word, from 1.
     BadWord(u32),
-    /// There is no such file.
-    Missing,
-    /// The file has more than 1,048,576 bytes.
-    TooLong,
-    /// The file could not be read.
-    FileFailed,
+    /// A file that the words name was not read: which, and why.
+    File(FileWord, Unread),
     /// The line of the source, from 1, and what is wrong there.
     Source(u32, Wrong),
     /// No function with a body has the entry's name.
     NoEntry,
     /// Why the word MAP is the map text of no input within the bounds; never want of memory.
     Map(MapFault),
-    /// There is no tests file of that name.
-    TestsMissing,
-    /// The tests file has more than 16,777,216 bytes.
-    TestsTooLong,
-    /// The tests file could not be read.
-    TestsFailed,
     /// The first line of the tests file, from 1, that is none of such a file.
     Tests(u32),
     /// The output could not be written.

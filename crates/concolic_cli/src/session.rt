@@ -11,7 +11,7 @@ ghost use Rattle.concolic_cli.specs.Tasks.{IsPathOf, list, walk, trace, replay};
 use crate::after::path_if;
 use crate::answers::Status;
 use crate::prepared::{compile, prepare_trace};
-use crate::refusal::Refusal;
+use crate::refusal::{FileWord, Refusal, Unread};
 use crate::replaying::{tests_in, write_replay};
 use crate::searching::write_listing;
 use crate::tracing::write_trace;
@@ -34,9 +34,9 @@ fn read_source<F: Files>(alloc: Global, files: &mut F, file: &str) -> Result<Vec
 {
     match files.load(alloc, file, SOURCE_LIMIT) {
         Ok(bytes) => Ok(bytes),
-        Err(LoadFault::Missing) => Err(Refusal::Missing),
-        Err(LoadFault::TooLong) => Err(Refusal::TooLong),
-        Err(LoadFault::Failed) => Err(Refusal::FileFailed),
+        Err(LoadFault::Missing) => Err(Refusal::File(FileWord::Source, Unread::Missing)),
+        Err(LoadFault::TooLong) => Err(Refusal::File(FileWord::Source, Unread::TooLong)),
+        Err(LoadFault::Failed) => Err(Refusal::File(FileWord::Source, Unread::Failed)),
         Err(LoadFault::NoMemory) => Err(Refusal::NoMemory),
     }
 }
@@ -54,9 +54,9 @@ fn load_tests<F: Files>(alloc: Global, files: &mut F, tests: &str) -> Result<Vec
 {
     match files.load(alloc, tests, TESTS_LIMIT) {
         Ok(bytes) => Ok(bytes),
-        Err(LoadFault::Missing) => Err(Refusal::TestsMissing),
-        Err(LoadFault::TooLong) => Err(Refusal::TestsTooLong),
-        Err(LoadFault::Failed) => Err(Refusal::TestsFailed),
+        Err(LoadFault::Missing) => Err(Refusal::File(FileWord::Tests, Unread::Missing)),
+        Err(LoadFault::TooLong) => Err(Refusal::File(FileWord::Tests, Unread::TooLong)),
+        Err(LoadFault::Failed) => Err(Refusal::File(FileWord::Tests, Unread::Failed)),
         Err(LoadFault::NoMemory) => Err(Refusal::NoMemory),
     }
 }
@@ -87,11 +87,8 @@ pub fn list_tests<F: Files, K: Sink>(
         return Err(Refusal::NoMemory);
     };
     let source = read_source(alloc, files, file)?;
-    let compiled = match compile(alloc, &source, entry) {
-        Ok(compiled) => compiled,
-        Err(refusal) => return Err(refusal),
-    };
-    let status = match write_listing(
+    let compiled = compile(alloc, &source, entry)?;
+    let status = write_listing(
         alloc,
         &compiled,
         &words.bounds,
@@ -99,10 +96,7 @@ pub fn list_tests<F: Files, K: Sink>(
         words.budget,
         path.as_ref(),
         out,
-    ) {
-        Ok(status) => status,
-        Err(refusal) => return Err(refusal),
-    };
+    )?;
     Ok(status)
 }
 
@@ -127,14 +121,9 @@ pub fn walk_runs<F: Files, K: Sink>(
     ensures held { F.held files.new ≡ F.held files.old }
 {
     let source = read_source(alloc, files, file)?;
-    let compiled = match compile(alloc, &source, entry) {
-        Ok(compiled) => compiled,
-        Err(refusal) => return Err(refusal),
-    };
-    match write_walk(alloc, &compiled, words, out) {
-        Ok(status) => Ok(status),
-        Err(refusal) => Err(refusal),
-    }
+    let compiled = compile(alloc, &source, entry)?;
+    let status = write_walk(alloc, &compiled, words, out)?;
+    Ok(status)
 }
 
 /// Writes what the run of the function `entry` of the source in `file` does on the input of a map text.
@@ -153,10 +142,7 @@ pub fn tell_run<F: Files, K: Sink>(
 {
     let source = read_source(alloc, files, file)?;
     let traced = prepare_trace(alloc, &source, entry, map, bounds)?;
-    let status = match write_trace(alloc, &traced.checked, bounds, &traced.trace, out) {
-        Ok(status) => status,
-        Err(refusal) => return Err(refusal),
-    };
+    let status = write_trace(alloc, &traced.checked, bounds, &traced.trace, out)?;
     Ok(status)
 }
 
@@ -175,20 +161,9 @@ pub fn replay_file<F: Files, K: Sink>(
     ensures held { F.held files.new ≡ F.held files.old }
 {
     let source = read_source(alloc, files, file)?;
-    let compiled = match compile(alloc, &source, entry) {
-        Ok(compiled) => compiled,
-        Err(refusal) => return Err(refusal),
-    };
-    let text = match load_tests(alloc, files, tests) {
-        Ok(text) => text,
-        Err(refusal) => return Err(refusal),
-    };
-    let held = match tests_in(alloc, &text, &compiled.checked) {
-        Ok(held) => held,
-        Err(refusal) => return Err(refusal),
-    };
-    match write_replay(alloc, &compiled, &held, out) {
-        Ok(status) => Ok(status),
-        Err(refusal) => Err(refusal),
-    }
+    let compiled = compile(alloc, &source, entry)?;
+    let text = load_tests(alloc, files, tests)?;
+    let held = tests_in(alloc, &text, &compiled.checked)?;
+    let status = write_replay(alloc, &compiled, &held, out)?;
+    Ok(status)
 }

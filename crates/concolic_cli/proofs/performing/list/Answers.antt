@@ -1,4 +1,4 @@
-use Rattle.std.proofs.Common.{refl, sym, subst}
+use Rattle.std.proofs.Common.{sym, subst}
 use Rattle.concolic_cli.specs.Tasks.{IsPathOf, asks_list, list_task}
 use Rattle.concolic_cli.proofs.Calls.{done_for, refused_as}
 use Rattle.concolic_cli.proofs.performing.list.Goals as goal

@@ -1,4 +1,3 @@
-use Rattle.std.proofs.Common.{refl}
 use Rattle.concolic_cli.specs.Tasks.{asks_walk, walk_task}
 use Rattle.concolic_cli.proofs.Calls.{done_for, refused_as}
 use Rattle.concolic_cli.proofs.performing.walk.Goals as goal
