@@ -1,18 +1,17 @@
 -- Ways to write the parts of a rule, for laws on viable prefixes: a token before the rest, a rule by its parts, a list.
-use Rattle.std.proofs.Common.{◌≡◌, ℕ, zero, suc, ◌≤◌, Bool, true, false, List, [], ◌∷◌, ◌++◌, Option, Some, None, refl, ap, ◌∙◌, arith}
+use Rattle.std.proofs.Common.{◌≡◌, ℕ, zero, suc, Bool, false, List, [], ◌∷◌, ◌++◌, Some, refl, ◌∙◌, arith}
 use Rattle.cc_model.specs.declared.tokens.Kind.{Kind}
 use Rattle.cc_model.specs.declared.tokens.Kind.TheVariants as kind
 use Rattle.cc_model.specs.declared.tokens.Punct.{Punct}
-use Rattle.cc_model.specs.declared.tokens.Punct.TheVariants as punct
 use Rattle.cc_model.specs.declared.tokens.Keyword.{Keyword}
-use Rattle.cc_model.specs.Spots.{Spot, opened, passed, closed, back, Next, Is}
+use Rattle.cc_model.specs.Spots.{Spot, opened, passed, closed, back, Next}
 use Rattle.c_expressions.specs.Descent.{Fault, bad, deep, Got, got, failed, spent, P, go_on, ◌>>=◌, ◌>>◌, pure, out, is_sign}
 use Rattle.c_expressions.specs.Descent as of
 use Rattle.c_statements.specs.DescentStatements.{branch}
 use Rattle.c_statements.specs.DescentStatements as st
-use Rattle.c_expressions.proofs.Viable.{Tokens, Fits, Piece, Verdict, seq, token, open_token, pass_token, close_token, done, here, put, put_here, put_before, verdict_on, verdict_rest, verdict_bind, verdict_then, verdict_map, verdict_if, seen_verdict, missing_verdict, open_verdict, pass_verdict, sign_verdict, pass_sign_verdict, word_verdict, name_verdict, close_verdict, done_verdict}
+use Rattle.c_expressions.proofs.Viable.{Tokens, Fits, Piece, Verdict, seq, token, open_token, pass_token, close_token, done, here, put, put_here, put_before, verdict_on, verdict_bind, verdict_then, verdict_map, verdict_if, seen_verdict, missing_verdict, open_verdict, pass_verdict, sign_verdict, pass_sign_verdict, word_verdict, name_verdict, close_verdict}
 use Rattle.c_parse.proofs.Firm.{Firm}
-use Rattle.c_parse.proofs.FirmStatements.{Goes, stop, go, goes_firm, Comma}
+use Rattle.c_parse.proofs.FirmStatements.{Goes, stop, go, goes_firm}
 
 -- ---- a token before the rest
 

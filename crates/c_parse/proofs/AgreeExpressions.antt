@@ -18,7 +18,7 @@ use Rattle.c_expressions.proofs.Tests.{Starts, start_tells, is_sign_tells, base_
 use Rattle.c_expressions.proofs.Viable.{Peeks}
 use Rattle.c_expressions.proofs.ViableExpressions.{base, stars, chain, postfix, tail, more, named, arguments_rest, args, base_verdict, stars_verdict, casts_peek, tail_verdict, unary_verdict, more_verdict, primary_verdict, named_verdict, args_verdict, args_more_verdict}
 use Rattle.c_parse.proofs.Walks.{rep, Starry, Unsure, parens_walks, walks_alike}
-use Rattle.c_parse.proofs.Agree.{Behind, Alike, equal, Local, Agree, before, behind_of, local_at, local_bind, local_then, local_if, pure_local, leave_local, bad_local, alike_if, alike_some, take_local, sign_local, word_local, name_local, close_local}
+use Rattle.c_parse.proofs.Agree.{Alike, equal, Local, Agree, before, behind_of, local_at, local_bind, local_then, local_if, pure_local, leave_local, bad_local, alike_if, alike_some, take_local, sign_local, word_local, name_local, close_local}
 
 module _ (K D : ℕ) (tok tok' : ℕ → Option Kind) (fits fits' : ℕ → ℕ → Bool) (agree : Agree K D tok tok' fits fits') where
   same : (i : ℕ) → i < K → tok' i ≡ tok i

@@ -1,12 +1,11 @@
 -- Over two lists of tokens that agree up to a place, the items of a file are read alike.
-use Rattle.std.proofs.Common.{◌≡◌, ◌⊎◌, inl, inr, ℕ, zero, suc, ◌≤◌, ◌<◌, Bool, true, false, ℤ, List, [], ◌∷◌, Option, Some, None, if◌then◌else◌, refl, sym, ap, subst, ◌∙◌, arith}
+use Rattle.std.proofs.Common.{◌≡◌, ◌⊎◌, inl, inr, ℕ, suc, ◌≤◌, ◌<◌, Bool, true, false, List, [], ◌∷◌, Option, Some, None, if◌then◌else◌, refl, ap, ◌∙◌, arith}
 use Rattle.cc_model.specs.declared.tokens.Kind.{Kind}
 use Rattle.cc_model.specs.declared.tokens.Kind.TheVariants as kind
 use Rattle.cc_model.specs.declared.tokens.Punct.TheVariants as punct
 use Rattle.cc_model.specs.declared.tokens.Keyword.TheVariants as keyword
 use Rattle.cc_model.specs.declared.trees.Base.{Base}
 use Rattle.cc_model.specs.declared.trees.Base.TheVariants as base_tree
-use Rattle.cc_model.specs.declared.trees.TypeName.{TypeName}
 use Rattle.cc_model.specs.declared.trees.ResultType.{ResultType}
 use Rattle.cc_model.specs.declared.trees.ResultType.TheVariants as returned
 use Rattle.cc_model.specs.declared.trees.Declarator.{Declarator}
@@ -21,8 +20,9 @@ use Rattle.c_statements.specs.DescentStatements.{branch, given, number_at}
 use Rattle.c_statements.specs.DescentStatements as st
 use Rattle.c_parse.specs.DescentItems.{with_names, ItemStart, a_typedef, a_struct, a_void, a_typed, struct_or, item_at, is_end}
 use Rattle.c_parse.specs.DescentItems as it
-use Rattle.c_expressions.proofs.Made.{Made, take_made, name_made, made_map}
-use Rattle.c_parse.proofs.Agree.{Behind, Alike, behind, Local, Agree, before, local_bind, local_then, local_made, pure_local, bad_local, branch_local, given_local, pick_local, many_local, take_local, word_local, name_local}
+use Rattle.c_expressions.proofs.Made.{take_made, name_made, made_map}
+use Rattle.c_parse.proofs.Agree.{Behind, behind, Local, Agree, before, local_bind, local_then, local_made, pure_local, bad_local, take_local, word_local, name_local}
+use Rattle.c_parse.proofs.AgreeParts.{branch_local, given_local, pick_local, many_local}
 use Rattle.c_parse.proofs.AgreeExpressions.{base_local, stars_local, type_local}
 use Rattle.c_parse.proofs.AgreeStatements.{has_same, take_then, sign_then, name_then, close_then, semicolon_end, number_local, declarator_rest_local, declarator_local, commas_more_local, commas_local, block_local}
 

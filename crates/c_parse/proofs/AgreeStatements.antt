@@ -1,5 +1,5 @@
 -- Over two lists of tokens that agree up to a place, a declaration, a statement and a block are read alike.
-use Rattle.std.proofs.Common.{◌≡◌, ◌⊎◌, inl, inr, ℕ, zero, suc, ◌≤◌, ◌<◌, Bool, true, false, ℤ, List, [], ◌∷◌, ◌++◌, Option, Some, None, nat_lt, if◌then◌else◌, refl, sym, ap, subst, ◌∙◌, arith}
+use Rattle.std.proofs.Common.{◌≡◌, ◌⊎◌, inl, inr, ℕ, zero, suc, ◌≤◌, ◌<◌, Bool, true, false, List, [], ◌∷◌, ◌++◌, Option, Some, None, if◌then◌else◌, refl, ap, ◌∙◌, arith}
 use Rattle.cc_model.specs.declared.tokens.Kind.{Kind}
 use Rattle.cc_model.specs.declared.tokens.Kind.TheVariants as kind
 use Rattle.cc_model.specs.declared.tokens.Punct.{Punct}
@@ -7,25 +7,20 @@ use Rattle.cc_model.specs.declared.tokens.Punct.TheVariants as punct
 use Rattle.cc_model.specs.declared.tokens.Keyword.TheVariants as keyword
 use Rattle.cc_model.specs.declared.trees.Base.{Base}
 use Rattle.cc_model.specs.declared.trees.Expr.{Expr}
-use Rattle.cc_model.specs.declared.trees.Declarator.{Declarator}
 use Rattle.cc_model.specs.declared.trees.Decl.{Decl}
-use Rattle.cc_model.specs.declared.trees.Simple.{Simple}
-use Rattle.cc_model.specs.declared.trees.Simple.TheVariants as a_simple
-use Rattle.cc_model.specs.declared.trees.Head.{Head}
 use Rattle.cc_model.specs.declared.trees.Head.TheVariants as a_head
 use Rattle.cc_model.specs.declared.trees.Stmt.{Stmt}
 use Rattle.cc_model.specs.declared.trees.Stmt.TheVariants as a_stmt
 use Rattle.cc_model.specs.declared.trees.Part.{Part}
 use Rattle.cc_model.specs.declared.trees.Part.TheVariants as a_part
-use Rattle.cc_model.specs.Spots.{Spot, opened, passed, back, closed}
-use Rattle.cc_model.specs.ReadStatements as by
+use Rattle.cc_model.specs.Spots.{Spot, opened, passed, back}
 use Rattle.c_expressions.specs.Descent.{Fault, bad, deep, Got, got, failed, spent, P, go_on, ◌>>=◌, ◌>>◌, pure, leave, wrong, out, is_sign, is_key, is_name, prefix_at, on_some, base_at}
 use Rattle.c_expressions.specs.Descent as of
 use Rattle.c_statements.specs.DescentStatements.{branch, given, number_at, begins_decl, assign_at, behind_at, call_of, is_left_out, SimpleStart, an_assert, an_assume, an_abort, a_crest_int, a_step, a_unary, simple_at, StmtStart, an_empty, a_block, an_if, a_while, a_do, a_for, a_return, a_break, a_continue, a_plain, stmt_at}
 use Rattle.c_statements.specs.DescentStatements as st
-use Rattle.c_expressions.proofs.Viable.{Verdict, place}
 use Rattle.c_expressions.proofs.ViableExpressions.{chain, unary_verdict}
-use Rattle.c_parse.proofs.Agree.{Behind, Alike, equal, Local, Agree, itself, before, behind_of, local_split, if_behind, local_bind, local_then, local_made, ends_on, pure_local, leave_local, bad_local, branch_local, given_local, pick_local, many_local, take_local, sign_local, word_local, close_local, name_local}
+use Rattle.c_parse.proofs.Agree.{equal, Local, Agree, itself, before, behind_of, local_split, if_behind, local_bind, local_then, local_made, ends_on, pure_local, leave_local, bad_local, take_local, sign_local, word_local, close_local, name_local}
+use Rattle.c_parse.proofs.AgreeParts.{branch_local, given_local, pick_local, many_local}
 use Rattle.c_parse.proofs.Walks.{Walks, walks_spent, walks_bind, unary_walks, base_takes, walks_alike}
 use Rattle.c_parse.proofs.AgreeExpressions.{base_local, stars_local, chain_local, unary_local, bracketed_local}
 

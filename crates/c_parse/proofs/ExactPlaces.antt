@@ -1,13 +1,10 @@
 -- The place of a fault is exact: the tokens before it begin a program, and with it they begin none.
-use Rattle.std.proofs.Common.{◌≡◌, ◌⊎◌, inl, inr, ℕ, zero, suc, ◌+◌, ◌-◌, ◌≤◌, ◌<◌, Bool, true, false, List, [], ◌∷◌, ◌++◌, take, length, slice_get, Option, Some, None, Result, Ok, Err, nat_eq, nat_lt, if◌then◌else◌, eq-eqb, refl, sym, ap, subst, ◌∙◌, arith}
-use Rattle.std.specs.Prelude.{IfErr}
-use Rattle.std.specs.Result.{IsErr, IsErrAnd}
+use Rattle.std.proofs.Common.{◌≡◌, ◌⊎◌, inl, inr, ℕ, zero, suc, ◌+◌, ◌-◌, ◌≤◌, ◌<◌, Bool, true, false, List, [], ◌∷◌, ◌++◌, take, length, Option, Some, None, nat_eq, nat_lt, if◌then◌else◌, eq-eqb, refl, sym, ap, ◌∙◌, arith}
 use Rattle.std.proofs.lemmas.Bool.Decides.{nat_tests}
-use Rattle.std.proofs.lemmas.Option.{slice_get_past, slice_get_within}
+use Rattle.std.proofs.lemmas.Option.{slice_get_past}
 use Rattle.cc_model.specs.declared.tokens.Token.{Token}
 use Rattle.cc_model.specs.declared.tokens.Kind.{Kind}
 use Rattle.cc_model.specs.declared.tokens.Kind.TheVariants as kind
-use Rattle.cc_model.specs.declared.tokens.Punct.TheVariants as punct
 use Rattle.cc_model.specs.declared.trees.Item.{Item}
 use Rattle.cc_model.specs.declared.trees.Program.{Program}
 use Rattle.cc_model.specs.Spots.{Spot, start, kind_at, kind_of, shallow}
@@ -18,14 +15,14 @@ use Rattle.c_expressions.specs.declared.fault.ParseFault.TheVariants.{Syntax, To
 use Rattle.c_expressions.specs.Descent.{Fault, bad, deep, Got, got, failed, Ends}
 use Rattle.c_parse.specs.DescentItems as it
 use Rattle.c_expressions.specs.Shown.{ShowsFault}
-use Rattle.c_parse.specs.Places.{unbounded, shallow_before, first_deep, shallow_at, Begins, Ceases, IsSyntax, IsDeep, Placed}
+use Rattle.c_parse.specs.Places.{unbounded, shallow_at, Begins, Ceases, IsSyntax, IsDeep, Placed}
 use Rattle.c_parse.proofs.ItemLaws.{items_yes}
 use Rattle.c_expressions.proofs.Viable.{Tokens, Fits, Verdict, limit, place, fits_of}
-use Rattle.c_parse.proofs.ViableItems.{items, items_verdict}
+use Rattle.c_parse.proofs.ItemPieces.{items}
+use Rattle.c_parse.proofs.ViableItems.{items_verdict}
 use Rattle.c_parse.proofs.Afters.{made}
-use Rattle.c_parse.proofs.Firm.{Filled}
 use Rattle.c_parse.proofs.FirmItems.{items_firm}
-use Rattle.c_parse.proofs.Agree.{Behind, Alike, equal, behind, early, spent_one, spent_two, Agree}
+use Rattle.c_parse.proofs.Agree.{Alike, equal, behind, early, spent_one, spent_two, Agree}
 use Rattle.c_parse.proofs.AgreeItems.{items_local}
 
 -- ---- tokens by their kinds
@@ -78,12 +75,18 @@ begins_from tokens tok fits k l t same h d =
     let e : k + (t.at - k) ≡ t.at = omega arith in
     let long = found tokens k (λ i p. let x = f.filled i (omega arith) (omega arith) in (x.0, sym (same i p) ∙ x.1)) in
     let text = take k tokens ++ fill tok k (t.at - k) in
-    let alike : (i : ℕ) → i < t.at → kind_at text i ≡ tok i = λ i p. go (nat_lt i k) i p refl long in
-    (long, (fill tok k (t.at - k), record { items = l }, record {
-      end = t;
-      items = f.moved (kind_at text) fits (λ i p q. (alike i q, λ d e. e));
-      all = ap (kind_at text) (sym e) ∙ (back k tokens (fill tok k (t.at - k)) (t.at - k) long ∙ fill_end tok k (t.at - k));
-    }))
+    let alike : (i : ℕ) → i < t.at → kind_at text i ≡ tok i = λ i p. go (nat_lt i k) i p refl long in (
+      long,
+      (
+        fill tok k (t.at - k),
+        record { items = l },
+        record {
+          end = t;
+          items = f.moved (kind_at text) fits (λ i p q. (alike i q, λ d e. e));
+          all = ap (kind_at text) (sym e) ∙ (back k tokens (fill tok k (t.at - k)) (t.at - k) long ∙ fill_end tok k (t.at - k));
+        },
+      ),
+    )
   where
     go : (b : Bool) (i : ℕ) → i < t.at → nat_lt i k ≡ b → k ≤ length tokens → kind_at (take k tokens ++ fill tok k (t.at - k)) i ≡ tok i
     go true i p q long = front k tokens (fill tok k (t.at - k)) i long (grind (arith, nat_tests)) ∙ sym (same i (grind (arith, nat_tests)))
@@ -118,7 +121,7 @@ parted : (tokens text : List Token) (K D : ℕ) (fits : Fits) (f : Fault) (p : P
 parted tokens text K D fits f p h agree r =
     let e = items_yes (kind_at text) fits r.items r.all in
     clash K D (it.items (kind_at tokens) shallow (h.0 + e.0) start) (it.items (kind_at text) fits (h.0 + e.0) start) f p.items r.end (items_local K D (kind_at tokens) (kind_at text) shallow fits agree (h.0 + e.0) start).0
-        (h.1 (h.0 + e.0) (omega arith)) (e.1 (h.0 + e.0) (omega arith))
+    (h.1 (h.0 + e.0) (omega arith)) (e.1 (h.0 + e.0) (omega arith))
 
 none_with : (tokens text : List Token) (k : ℕ) (p : Program) → Ends (λ n. it.items (kind_at tokens) shallow n) start (failed (bad k)) → ((i : ℕ) → i < suc k → kind_at text i ≡ kind_at tokens i) →
     Reads unbounded text p → ⊥
@@ -167,11 +170,6 @@ deep_placed tokens k h = let v = viable tokens (deep k) h in
 
 -- the fault that is found is the one that the tokens have
 pub placed : (tokens : List Token) (f : ParseFault) → ShowsFault (λ n. it.items (kind_at tokens) shallow n) start f → Placed tokens f
-placed tokens (Syntax k) h = syntax_placed tokens k h
-placed tokens (TooDeep k) h = deep_placed tokens k h
-placed tokens NoMemory h = tt
-
--- so is the one that is answered
-pub exit_placed : (tokens : List Token) (r : Result Program ParseFault) (f : ParseFault) → (IsErr r × IsErrAnd r (λ x. x ≡ f)) → ShowsFault (λ n. it.items (kind_at tokens) shallow n) start f → IfErr r (λ x. Placed tokens x)
-exit_placed tokens (Ok x) f h k = tt
-exit_placed tokens (Err x) f h k = subst (λ e. Placed tokens e) (sym h.1) (placed tokens f k)
+placed tokens (Syntax k) h = inr (syntax_placed tokens k h)
+placed tokens (TooDeep k) h = inr (deep_placed tokens k h)
+placed tokens NoMemory h = inl refl

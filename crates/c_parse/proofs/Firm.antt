@@ -1,5 +1,5 @@
--- A derivation goes forward, finds a token at each place, and looks at these tokens alone: one law for each rule of types and expressions.
-use Rattle.std.proofs.Common.{◌≡◌, ℕ, suc, ◌≤◌, ◌<◌, Bool, true, false, List, [], ◌∷◌, ◌++◌, Option, Some, nat_lt, refl, ◌∙◌, arith}
+-- A derivation goes forward, finds a token at each place, and looks at these tokens alone.
+use Rattle.std.proofs.Common.{◌≡◌, ℕ, suc, ◌≤◌, ◌<◌, Bool, true, false, List, Some, nat_lt, refl, ◌∙◌, arith}
 use Rattle.std.proofs.lemmas.Bool.Decides.{nat_tests}
 use Rattle.cc_model.specs.declared.tokens.Kind.{Kind}
 use Rattle.cc_model.specs.declared.trees.Base.{Base}

@@ -1,6 +1,5 @@
 -- The same for the items of a file.
-use Rattle.std.proofs.Common.{◌≡◌, ℕ, suc, Bool, List, [], ◌∷◌, ◌++◌, Option, Some, None, refl}
-use Rattle.cc_model.specs.declared.tokens.Kind.{Kind}
+use Rattle.std.proofs.Common.{◌≡◌, ℕ, List, [], ◌∷◌, Some, None}
 use Rattle.cc_model.specs.declared.tokens.Punct.TheVariants as punct
 use Rattle.cc_model.specs.declared.tokens.Keyword.TheVariants as keyword
 use Rattle.cc_model.specs.declared.trees.Base.{Base}

@@ -1,6 +1,5 @@
 -- The same for declarations, statements and blocks, and for what stands behind a part of them.
-use Rattle.std.proofs.Common.{◌≡◌, ℕ, suc, Bool, true, false, ℤ, List, [], ◌∷◌, ◌++◌, Option, Some, None, refl}
-use Rattle.cc_model.specs.declared.tokens.Kind.{Kind}
+use Rattle.std.proofs.Common.{ℕ, suc, Bool, false, ℤ, List, [], ◌∷◌, ◌++◌, Option, Some, None}
 use Rattle.cc_model.specs.declared.tokens.Kind.TheVariants as kind
 use Rattle.cc_model.specs.declared.tokens.Punct.TheVariants as punct
 use Rattle.cc_model.specs.declared.tokens.Keyword.TheVariants as keyword

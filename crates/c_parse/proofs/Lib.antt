@@ -9,10 +9,13 @@ pub mod Afters
 pub mod ViableStatements
 pub mod ViableBlocks
 pub mod ViableParts
+pub mod ItemPieces
 pub mod ViableItems
 pub mod Agree
 pub mod Walks
 pub mod AgreeExpressions
+pub mod AgreeParts
 pub mod AgreeStatements
 pub mod AgreeItems
 pub mod ExactPlaces
+pub mod OnePlace

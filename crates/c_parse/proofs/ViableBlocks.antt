@@ -1,34 +1,27 @@
 -- Where a statement or a block meets a fault, the tokens before it begin one.
-use Rattle.std.proofs.Common.{◌≡◌, ℕ, zero, suc, Bool, true, false, List, [], ◌∷◌, ◌++◌, Option, Some, None, if◌then◌else◌, refl, arith}
-use Rattle.cc_model.specs.declared.tokens.Kind.{Kind}
+use Rattle.std.proofs.Common.{◌≡◌, ℕ, Option, Some, None, refl}
 use Rattle.cc_model.specs.declared.tokens.Kind.TheVariants as kind
 use Rattle.cc_model.specs.declared.tokens.Punct.{Punct}
 use Rattle.cc_model.specs.declared.tokens.Punct.TheVariants as punct
-use Rattle.cc_model.specs.declared.tokens.Keyword.{Keyword}
 use Rattle.cc_model.specs.declared.tokens.Keyword.TheVariants as keyword
 use Rattle.cc_model.specs.declared.trees.Expr.{Expr}
 use Rattle.cc_model.specs.declared.trees.Simple.{Simple}
 use Rattle.cc_model.specs.declared.trees.Simple.TheVariants as a_simple
 use Rattle.cc_model.specs.declared.trees.Head.{Head}
 use Rattle.cc_model.specs.declared.trees.Head.TheVariants as a_head
-use Rattle.cc_model.specs.declared.trees.Stmt.{Stmt}
-use Rattle.cc_model.specs.declared.trees.Stmt.TheVariants as a_stmt
-use Rattle.cc_model.specs.declared.trees.Part.{Part}
-use Rattle.cc_model.specs.declared.trees.Part.TheVariants as a_part
-use Rattle.cc_model.specs.Spots.{Spot, opened, passed, back, closed, Is, IsKey}
+use Rattle.cc_model.specs.Spots.{Spot, opened, passed, back, closed}
 use Rattle.cc_model.specs.ReadExpressions as ex
 use Rattle.cc_model.specs.ReadStatements as by
 use Rattle.c_expressions.specs.Descent.{Fault, bad, Got, got, failed, spent, P, go_on, ◌>>=◌, ◌>>◌, pure, leave, wrong, out, is_key, is_name, prefix_at, on_some}
 use Rattle.c_expressions.specs.Descent as of
 use Rattle.c_statements.specs.DescentStatements.{branch, given, assign_at, behind_at, call_of, is_left_out, SimpleStart, an_assert, an_assume, an_abort, a_crest_int, a_step, a_unary, simple_at, StmtStart, an_empty, a_block, an_if, a_while, a_do, a_for, a_return, a_break, a_continue, a_plain, stmt_at}
 use Rattle.c_statements.specs.DescentStatements as st
-use Rattle.c_expressions.proofs.Made.{Made}
-use Rattle.c_expressions.proofs.Tests.{is_key_tells, is_name_tells}
-use Rattle.c_statements.proofs.StmtSound.{assign_tells, behind_tells, call_tells, Simply, simple_tells, Stated, stmt_tells, exp_plain, exp_call, Ended, not_short, statement_sound}
-use Rattle.c_expressions.proofs.Viable.{Tokens, Fits, Piece, Verdict, seq, done, left, here, verdict_rest, verdict_bind, verdict_map, verdict_if, verdict_some, done_verdict, left_verdict}
+use Rattle.c_expressions.proofs.Tests.{is_name_tells}
+use Rattle.c_statements.proofs.StmtSound.{assign_tells, behind_tells, call_tells, Simply, simple_tells, exp_plain, exp_call}
+use Rattle.c_expressions.proofs.Viable.{Tokens, Fits, Piece, Verdict, seq, done, left, here, rule, verdict_rest, verdict_bind, verdict_map, verdict_if, verdict_some, done_verdict, left_verdict}
 use Rattle.c_expressions.proofs.ViableExpressions.{chain, postfix, bracketed, chain_verdict, unary_verdict, bracketed_verdict}
-use Rattle.c_parse.proofs.FirmStatements.{Goes, go, Controls, controls, Branches, alone, both, AnyStatement, any, PartAt, decl, stmt, simple_firm, opt_expr_firm, opt_simple_firm, for_head_firm, controls_firm, statement_firm, any_firm, branches_firm, block_firm, part_firm, with_parts, with_controls, with_branches}
-use Rattle.c_parse.proofs.Afters.{after, opens, passes, shuts, made, goes, take_opens, take_passes, sign_opens, sign_passes, word_passes, close_shuts, take_shuts, missing_shuts, verdict_here, verdict_due, verdict_made}
+use Rattle.c_parse.proofs.FirmStatements.{Controls, controls, simple_firm, opt_expr_firm, opt_simple_firm, for_head_firm, controls_firm}
+use Rattle.c_parse.proofs.Afters.{after, opens, passes, shuts, made, take_passes, sign_opens, sign_passes, close_shuts, take_shuts, missing_shuts, verdict_here, verdict_due, verdict_made}
 use Rattle.c_parse.proofs.ViableStatements.{declaration, declaration_verdict}
 
 -- ---- simple statements
@@ -48,14 +41,14 @@ unfoldable assert_parts : Spot → Piece Simple
 assert_parts s = passes (kind.Key keyword.Assert) (seq bracketed (λ a. done (a_simple.Assert s.at a)))
 
 assert_from : (tok : Tokens) (fits : Fits) (s t : Spot) (a : Simple) → (assert_parts s).rel tok fits s a t → simple.rel tok fits s a t
-unfolding assert_parts simple made passes after seq bracketed Rattle.c_expressions.proofs.Viable.rule done
+unfolding assert_parts simple made passes after seq bracketed rule done
 assert_from tok fits s t a d = rw (d.1.3.0, d.1.3.1) (by.assert d.0 d.1.2)
 
 unfoldable assume_parts : Spot → Piece Simple
 assume_parts s = passes (kind.Key keyword.Assume) (seq bracketed (λ a. done (a_simple.Assume s.at a)))
 
 assume_from : (tok : Tokens) (fits : Fits) (s t : Spot) (a : Simple) → (assume_parts s).rel tok fits s a t → simple.rel tok fits s a t
-unfolding assume_parts simple made passes after seq bracketed Rattle.c_expressions.proofs.Viable.rule done
+unfolding assume_parts simple made passes after seq bracketed rule done
 assume_from tok fits s t a d = rw (d.1.3.0, d.1.3.1) (by.assume d.0 d.1.2)
 
 unfoldable crest_parts : Spot → Piece Simple

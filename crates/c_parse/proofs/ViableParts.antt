@@ -1,10 +1,7 @@
 -- Where a statement or a block meets a fault, the tokens before it begin one.
-use Rattle.std.proofs.Common.{◌≡◌, ℕ, zero, suc, Bool, true, false, List, [], ◌∷◌, ◌++◌, Option, Some, None, if◌then◌else◌, refl, ap, sym, subst, arith}
-use Rattle.cc_model.specs.declared.tokens.Kind.{Kind}
+use Rattle.std.proofs.Common.{ℕ, zero, suc, false, List, [], ◌∷◌, ◌++◌, Option}
 use Rattle.cc_model.specs.declared.tokens.Kind.TheVariants as kind
-use Rattle.cc_model.specs.declared.tokens.Punct.{Punct}
 use Rattle.cc_model.specs.declared.tokens.Punct.TheVariants as punct
-use Rattle.cc_model.specs.declared.tokens.Keyword.{Keyword}
 use Rattle.cc_model.specs.declared.tokens.Keyword.TheVariants as keyword
 use Rattle.cc_model.specs.declared.trees.Expr.{Expr}
 use Rattle.cc_model.specs.declared.trees.Simple.{Simple}
@@ -23,9 +20,9 @@ use Rattle.c_statements.specs.DescentStatements as st
 use Rattle.c_expressions.proofs.Made.{Made}
 use Rattle.c_expressions.proofs.Tests.{is_key_tells}
 use Rattle.c_statements.proofs.StmtSound.{Stated, stmt_tells, Ended, not_short, statement_sound}
-use Rattle.c_expressions.proofs.Viable.{Tokens, Fits, Piece, Verdict, seq, done, left, here, rule, verdict_rest, verdict_bind, verdict_map, verdict_if, done_verdict, left_verdict}
+use Rattle.c_expressions.proofs.Viable.{Tokens, Fits, Piece, Verdict, seq, done, left, rule, verdict_rest, verdict_bind, verdict_map, verdict_if, done_verdict, left_verdict}
 use Rattle.c_expressions.proofs.ViableExpressions.{bracketed, bracketed_verdict}
-use Rattle.c_parse.proofs.FirmStatements.{Goes, go, Controls, controls, Branches, alone, both, AnyStatement, any, PartAt, decl, stmt, statement_firm, any_firm, branches_firm, block_firm, part_firm, with_parts, with_controls, with_branches}
+use Rattle.c_parse.proofs.FirmStatements.{Goes, go, Controls, Branches, alone, both, AnyStatement, any, PartAt, decl, stmt, statement_firm, any_firm, branches_firm, block_firm, part_firm, with_parts, with_controls, with_branches}
 use Rattle.c_parse.proofs.Afters.{after, opens, passes, shuts, made, goes, take_opens, take_passes, sign_opens, sign_passes, word_passes, close_shuts, verdict_due, verdict_made}
 use Rattle.c_parse.proofs.ViableStatements.{declaration, declaration_verdict}
 use Rattle.c_parse.proofs.ViableBlocks.{simple, opt_expr, control, simple_verdict, opt_expr_verdict, control_verdict}

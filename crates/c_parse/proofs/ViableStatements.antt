@@ -1,5 +1,5 @@
 -- Where a declaration meets a fault, the tokens before it begin one.
-use Rattle.std.proofs.Common.{◌≡◌, ℕ, zero, suc, Bool, true, false, ℤ, pos, List, [], ◌∷◌, ◌++◌, Option, Some, None, if◌then◌else◌, refl, arith}
+use Rattle.std.proofs.Common.{◌≡◌, ℕ, suc, ℤ, pos, List, [], ◌∷◌, Some, None, arith}
 use Rattle.cc_model.specs.declared.tokens.Kind.TheVariants as kind
 use Rattle.cc_model.specs.declared.tokens.Punct.TheVariants as punct
 use Rattle.cc_model.specs.declared.trees.Length.{Length}
@@ -16,8 +16,8 @@ use Rattle.c_statements.proofs.StmtSound.{number_tells, has_tells, lacks_tells}
 use Rattle.c_expressions.proofs.Viable.{Tokens, Fits, Piece, Verdict, seq, done, left, here, put, put_here, put_before, fits_behind, verdict_bind, verdict_map, verdict_if, verdict_some, done_verdict, left_verdict}
 use Rattle.c_expressions.proofs.ViableExpressions.{base, stars, chain, base_verdict, stars_verdict, chain_verdict}
 use Rattle.c_parse.proofs.Firm.{Firm, firm_next, firm_map}
-use Rattle.c_parse.proofs.FirmStatements.{Goes, Comma, LengthAt, length, Starting, plain, starts, comma_firm, commas_firm, length_firm, declares_firm, starting_firm, initialised_firm, declaration_firm, with_commas, with_lengths, with_start}
-use Rattle.c_parse.proofs.Afters.{after, opens, passes, shuts, made, goes, take_opens, take_passes, sign_opens, sign_passes, name_passes, verdict_here, verdict_made, verdict_many}
+use Rattle.c_parse.proofs.FirmStatements.{Comma, LengthAt, length, Starting, plain, starts, comma_firm, commas_firm, length_firm, declares_firm, starting_firm, initialised_firm, declaration_firm, with_commas, with_lengths, with_start}
+use Rattle.c_parse.proofs.Afters.{after, opens, passes, made, goes, take_opens, take_passes, sign_passes, name_passes, verdict_here, verdict_made, verdict_many}
 
 -- ---- numbers
 

@@ -1,5 +1,6 @@
--- Behind `(` and a name, both readings of the stars that follow, as a cast and as an expression, take the same tokens at the same levels.
-use Rattle.std.proofs.Common.{◌≡◌, ◌⊎◌, inl, inr, ℕ, zero, suc, ◌+◌, ◌≤◌, ◌<◌, Bool, true, false, List, [], ◌∷◌, length, Option, Some, nat_lt, if◌then◌else◌, refl, ap, arith}
+-- Behind `(` and a name, both readings of the stars that follow, as a cast and as an expression,
+-- take the same tokens at the same levels.
+use Rattle.std.proofs.Common.{◌≡◌, ◌⊎◌, inl, inr, ℕ, zero, suc, ◌+◌, ◌≤◌, ◌<◌, Bool, true, false, List, [], ◌∷◌, length, Option, Some, if◌then◌else◌, refl, ap, arith}
 use Rattle.cc_model.specs.declared.tokens.Kind.{Kind}
 use Rattle.cc_model.specs.declared.tokens.Kind.TheVariants as kind
 use Rattle.cc_model.specs.declared.tokens.Punct.{Punct}

@@ -1,4 +1,5 @@
--- Where a fault stands: the token at which the tokens cease to begin a program (the viable prefix property), and the first that is too deep.
+-- Where a fault stands: the token at which the tokens cease to begin a program (the viable prefix property),
+-- and the first one that is too deep.
 use Rattle.std.specs.Prelude.{◌≡◌, ◌<◌, ◌⊎◌, ℕ, suc, Bool, true, not, nat_eq, nat_lt, List, ◌++◌, take, length, Result, Ok, Err, if◌then◌else◌}
 use Rattle.cc_model.specs.declared.tokens.Token.{Token}
 use Rattle.cc_model.specs.declared.trees.Program.{Program}
@@ -35,12 +36,22 @@ Ceases tokens k = ((k < length tokens) × (Begins unbounded tokens (suc k) → �
 abbrev pub IsSyntax : List Token → ℕ → Type 0
 IsSyntax tokens k = Begins (shallow_before k) tokens k × Ceases tokens k
 
--- the tokens up to and with k begin a program, in which k is the first token with a level above 200; they begin none in which k has another level
+-- the tokens up to and with k begin a program, in which k is the first token with a level above 200;
+-- they begin none in which its level is at most 200
 abbrev pub IsDeep : List Token → ℕ → Type 0
 IsDeep tokens k = (k < length tokens) × Begins (first_deep k) tokens (suc k) × (Begins (shallow_at k) tokens (suc k) → ⊥)
 
--- the fault is the one that the tokens have, at its token
+-- the fault is one that the tokens have, at its token
+abbrev pub IsFault : List Token → ParseFault → Type 0
+IsFault tokens (Syntax k) = IsSyntax tokens k
+IsFault tokens (TooDeep k) = IsDeep tokens k
+IsFault tokens NoMemory = ⊥
+
+-- so it is, unless memory ran out
 abbrev pub Placed : List Token → ParseFault → Type 0
-Placed tokens (Syntax k) = IsSyntax tokens k
-Placed tokens (TooDeep k) = IsDeep tokens k
-Placed tokens NoMemory = Unit {0}
+Placed tokens f = (f ≡ NoMemory) ⊎ IsFault tokens f
+
+-- this fault is given, unless memory runs out
+abbrev pub GivesFault : Result Program ParseFault → ParseFault → Type 0
+GivesFault (Ok p) f = ⊥
+GivesFault (Err g) f = (g ≡ NoMemory) ⊎ (g ≡ f)

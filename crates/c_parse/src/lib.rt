@@ -6,7 +6,8 @@ ghost use Rattle.cc_model.specs.declared.tokens.Token.{Token};
 ghost use Rattle.cc_model.specs.declared.trees.Program.{Program};
 ghost use Rattle.cc_model.specs.Reads.{Accepts, Reads};
 ghost use Rattle.c_parse.specs.Gives.{GivesOnly};
-ghost use Rattle.c_parse.specs.Places.{Placed};
+ghost use Rattle.c_parse.specs.Places.{Placed, IsFault, GivesFault};
+ghost use Rattle.c_expressions.specs.declared.fault.ParseFault.{ParseFault as Fault};
 
 mod functions;
 mod globals;
@@ -32,8 +33,10 @@ pub fn parse(alloc: Global, tokens: &[Token]) -> Result<Program, ParseFault>
     // A fault of the tokens comes only where they are accepted as no program.
     ensures refused { (k : ℕ) → (result ≡ Err (ParseFault.Syntax k)) ⊎ (result ≡ Err (ParseFault.TooDeep k))
         → (p : Program) → Accepts tokens.now p → ⊥ }
-    // The fault is the one that the tokens have, at its token.
+    // A fault is one that the tokens have, at its place.
     ensures place { IfErr result (λ e. Placed tokens.now e) }
+    // The fault that the tokens have is given, unless memory runs out.
+    ensures exact { (f : Fault) → IsFault tokens.now f → GivesFault result f }
 {
     let parser = Parser { alloc, tokens };
     let (items, _end) = items(&parser, Spot { at: 0, level: 0 })?;

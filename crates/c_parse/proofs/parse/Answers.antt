@@ -1,7 +1,7 @@
 use Rattle.c_parse.proofs.Programs.{given_reads, given_only}
 use Rattle.c_parse.proofs.ItemSteps.{exit_only, refuses}
 use Rattle.c_expressions.specs.Shown.{place}
-use Rattle.c_parse.proofs.ExactPlaces.{exit_placed}
+use Rattle.c_parse.proofs.OnePlace.{exit_placed, exit_exact, given_fault}
 use Rattle.c_parse.proofs.parse.Goals as goal
 
 pub returns-in_err-items-clause-only : goal.returns-in_err-items-clause-only
@@ -18,3 +18,9 @@ returns-clause-only c = λ p a. given_only c.args.tokens.now c.in_ok-items.items
 
 pub returns-in_err-items-clause-place : goal.returns-in_err-items-clause-place
 returns-in_err-items-clause-place c = exit_placed c.args.tokens.now _ c.in_err-items.field-0.0 c.from_residual.ensures c.in_err-items.ensures.shown
+
+pub returns-in_err-items-clause-exact : goal.returns-in_err-items-clause-exact
+returns-in_err-items-clause-exact c = exit_exact c.args.tokens.now _ c.in_err-items.field-0.0 c.from_residual.ensures c.in_err-items.ensures.shown
+
+pub returns-clause-exact : goal.returns-clause-exact
+returns-clause-exact c = λ f h. given_fault c.args.tokens.now (record { items = c.in_ok-items.items }) f (given_reads c.args.tokens.now c.in_ok-items.items (place c.in_ok-items._end) c.in_ok-items.ensures.shown) h
