@@ -285,7 +285,7 @@ module _ (tok : ℕ → Option Kind) (fits : ℕ → ℕ → Bool) where
   unfolding with_names
   nothing_named q e = cc
 
-  heading_params : {s t : Spot} {l : List ProtoParam} (q : List Param) → by.Heading tok fits ProtoParam (by.Prototyped tok fits) s t l → with_names l ≡ Some q → by.Heading tok fits Param (by.Parameter tok fits) s t q
+  pub heading_params : {s t : Spot} {l : List ProtoParam} (q : List Param) → by.Heading tok fits ProtoParam (by.Prototyped tok fits) s t l → with_names l ≡ Some q → by.Heading tok fits Param (by.Parameter tok fits) s t q
   heading_params q (by.heading {s} {t} i o by.none c) e = subst (λ q. by.Heading tok fits Param (by.Parameter tok fits) s (closed t s.level) q) (nothing_named q e) (by.heading i o by.none c)
   heading_params q (by.heading {s} {t} i o (by.void v) c) e = subst (λ q. by.Heading tok fits Param (by.Parameter tok fits) s (closed t s.level) q) (nothing_named q e) (by.heading i o (by.void v) c)
   heading_params q (by.heading i o (by.some d) c) e = by.heading i o (by.some (protos_params q d e)) c
@@ -419,7 +419,7 @@ module _ (tok : ℕ → Option Kind) (fits : ℕ → ℕ → Bool) where
   item_yes (by.prototype {s} (by.void i) h c) = let k = prototype_named returned.Void h c in by_item s a_void (ap (λ k. item_at k (tok (suc (suc s.at)))) i.0) (ends_then _ _ (take_yes tok fits s passed i.1) (ends_here _ (ends_then _ _ (name_taken tok fits (passed s) k.0) k.2)))
   item_yes (by.prototype (by.value (ty.typed {b = b} {n = n} e f)) h c) = typed_function e f (prototype_named (returned.Value (record { base = b; stars = n })) h c)
 
-  abbrev Begun : ItemStart → Option Kind → Type 0
+  abbrev pub Begun : ItemStart → Option Kind → Type 0
   Begun a_typedef k = k ≡ Some (kind.Key keyword.Typedef)
   Begun a_struct k = k ≡ Some (kind.Key keyword.Struct)
   Begun a_void k = k ≡ Some (kind.Key keyword.Void)
@@ -430,7 +430,7 @@ module _ (tok : ℕ → Option Kind) (fits : ℕ → ℕ → Bool) where
   struct_tells true = refl
   struct_tells false = tt
 
-  item_tells : (k j : Option Kind) → Begun (item_at k j) k
+  pub item_tells : (k j : Option Kind) → Begun (item_at k j) k
   unfolding item_at
   item_tells (Some (kind.Key keyword.Typedef)) j = refl
   item_tells (Some (kind.Key keyword.Struct)) j = struct_tells (is_sign punct.OpenBrace j)

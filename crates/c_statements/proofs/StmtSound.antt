@@ -34,22 +34,22 @@ unfolding number_at
 number_tells (Some (kind.Number y)) z e = cc
 number_tells _ z e = cc
 
-assign_tells : (k : Option Kind) (make : by.Assignment) → assign_at k ≡ Some make → (p : Punct) × (k ≡ Some (kind.Punct p)) × (by.assign_sign p ≡ Some make)
+pub assign_tells : (k : Option Kind) (make : by.Assignment) → assign_at k ≡ Some make → (p : Punct) × (k ≡ Some (kind.Punct p)) × (by.assign_sign p ≡ Some make)
 unfolding assign_at
 assign_tells (Some (kind.Punct p)) make e = (p, refl, e)
 assign_tells _ make e = cc
 
-behind_tells : (o : Option ex.Prefix) (k : Option Kind) (make : by.Stepping) → behind_at o k ≡ Some make → (p : Punct) × (o ≡ None) × (k ≡ Some (kind.Punct p)) × (by.behind_sign p ≡ Some make)
+pub behind_tells : (o : Option ex.Prefix) (k : Option Kind) (make : by.Stepping) → behind_at o k ≡ Some make → (p : Punct) × (o ≡ None) × (k ≡ Some (kind.Punct p)) × (by.behind_sign p ≡ Some make)
 unfolding behind_at
 behind_tells None (Some (kind.Punct p)) make e = (p, refl, refl, e)
 behind_tells _ _ make e = cc
 
-call_tells : (b : Bool) (a : Expr) (l : List Expr) → call_of b a ≡ Some l → (b ≡ true) × (args_of (out-Expr a) ≡ Some l)
+pub call_tells : (b : Bool) (a : Expr) (l : List Expr) → call_of b a ≡ Some l → (b ≡ true) × (args_of (out-Expr a) ≡ Some l)
 unfolding call_of
 call_tells true a l e = (refl, e)
 call_tells false a l e = cc
 
-abbrev Simply : SimpleStart → Option Kind → Type 0
+abbrev pub Simply : SimpleStart → Option Kind → Type 0
 Simply an_assert k = k ≡ Some (kind.Key keyword.Assert)
 Simply an_assume k = k ≡ Some (kind.Key keyword.Assume)
 Simply an_abort k = k ≡ Some (kind.Key keyword.Abort)
@@ -62,7 +62,7 @@ unfolding step_or
 step_tells p (Some make) e = (p, refl, e)
 step_tells p None e = tt
 
-simple_tells : (k : Option Kind) → Simply (simple_at k) k
+pub simple_tells : (k : Option Kind) → Simply (simple_at k) k
 unfolding simple_at
 simple_tells (Some (kind.Key keyword.Assert)) = refl
 simple_tells (Some (kind.Key keyword.Assume)) = refl
@@ -71,7 +71,7 @@ simple_tells (Some (kind.Key keyword.CrestInt)) = refl
 simple_tells (Some (kind.Punct p)) = step_tells p (by.before_sign p) refl
 simple_tells _ = tt
 
-abbrev Stated : StmtStart → Option Kind → Type 0
+abbrev pub Stated : StmtStart → Option Kind → Type 0
 Stated an_empty k = k ≡ Some (kind.Punct punct.Semicolon)
 Stated a_block k = Unit {0}
 Stated an_if k = k ≡ Some (kind.Key keyword.If)
@@ -83,7 +83,7 @@ Stated a_break k = k ≡ Some (kind.Key keyword.Break)
 Stated a_continue k = k ≡ Some (kind.Key keyword.Continue)
 Stated a_plain k = Unit {0}
 
-stmt_tells : (k : Option Kind) → Stated (stmt_at k) k
+pub stmt_tells : (k : Option Kind) → Stated (stmt_at k) k
 unfolding stmt_at
 stmt_tells (Some (kind.Punct punct.Semicolon)) = refl
 stmt_tells (Some (kind.Key keyword.If)) = refl
@@ -160,7 +160,7 @@ module _ (tok : ℕ → Option Kind) (fits : ℕ → ℕ → Bool) where
 
   -- ---- simple statements
 
-  exp_plain : {s t : Spot} {a : Expr} → Exp tok fits 0 s t a → prefix_at (tok s.at) ≡ None → Postfix tok fits s t a
+  pub exp_plain : {s t : Spot} {a : Expr} → Exp tok fits 0 s t a → prefix_at (tok s.at) ≡ None → Postfix tok fits s t a
   exp_plain (ex.prefix p make e i d) n = absurd (cc (prefix_yes p i.0, e, n))
   exp_plain (ex.plain d) n = d
 
@@ -191,7 +191,7 @@ module _ (tok : ℕ → Option Kind) (fits : ℕ → ℕ → Bool) where
   post_call l (ex.field {s} {t} {a} p make d w i m) n e = absurd (cc (field_none p make s.at t.at a (suc t.at) w, e))
   post_call l (ex.index {s} {t} {u} {a} {i = x} d i w c) n e = absurd (cc (ap args_of (views.outs-Index s.at t.at a x), e))
 
-  exp_call : {s t : Spot} {a : Expr} (l : List Expr) → Exp tok fits 0 s t a → tok s.at ≡ Some kind.Name → args_of (out-Expr a) ≡ Some l → Calls s t l
+  pub exp_call : {s t : Spot} {a : Expr} (l : List Expr) → Exp tok fits 0 s t a → tok s.at ≡ Some kind.Name → args_of (out-Expr a) ≡ Some l → Calls s t l
   exp_call l (ex.prefix p make w i d) n e = absurd (cc (i.0, n))
   exp_call l (ex.plain d) n e = post_call l d n e
 
@@ -250,10 +250,10 @@ module _ (tok : ℕ → Option Kind) (fits : ℕ → ℕ → Bool) where
   -- ---- statements
 
   -- a statement, and behind one that ends in an `if` without `else` stands no `else`
-  abbrev Ended : Spot → Spot → Stmt → Type 0
+  abbrev pub Ended : Spot → Spot → Stmt → Type 0
   Ended s t a = (b : Bool) × by.Statement tok fits b s t a × (b ≡ true → is_key keyword.Else (tok t.at) ≡ false)
 
-  not_short : {t u : Spot} {a : Stmt} (b : Bool) → by.Statement tok fits b t u a → (b ≡ true → is_key keyword.Else (tok u.at) ≡ false) → is_key keyword.Else (tok u.at) ≡ true → by.Statement tok fits false t u a
+  pub not_short : {t u : Spot} {a : Stmt} (b : Bool) → by.Statement tok fits b t u a → (b ≡ true → is_key keyword.Else (tok u.at) ≡ false) → is_key keyword.Else (tok u.at) ≡ true → by.Statement tok fits false t u a
   not_short true d w e = absurd (cc (w refl, e))
   not_short false d w e = d
 
