@@ -12,7 +12,7 @@ use Rattle.cc_outside.specs.Told.{appended, WritesPart}
 use Rattle.cc_outside.proofs.ToldLemmas.{appended-appended, WritesPart-none, WritesPart-first, WritesPart-after}
 use Rattle.replay.specs.ReportFiles.{AreSmall}
 use Rattle.search_dfs.specs.declared.search.Summary.{Summary}
-use Rattle.search_dfs.specs.Explored.{Sums, HasNumbers, Explored, ExploredSome, listing_of}
+use Rattle.search_dfs.specs.Explored.{Sums, HasNumbers, Explored, ExploredSome, listing_of as listing_in}
 use Rattle.search_base.specs.Readable.{IsNarrow}
 use Rattle.search_base.specs.Setting.{setting}
 use Rattle.concolic_cli.specs.declared.refusal.Refusal.{Refusal}
@@ -118,7 +118,7 @@ module _ (c : Checked) (b : Limits) (after : Option Path) (old : Option (List �
 pub is_last_line : (c : Checked) (b : Limits) (runs budget : ℕ) (old new : Option (List ℕ)) (summary : Summary) (line : List ℕ) →
     Explored (setting c b budget) None runs old new summary → ((l : Listing) → Sums l summary → line ≡ last_line l) → IsLastLine c b runs budget line
 is_last_line c b runs budget old new summary line x h =
-    let found = listing_of (setting c b budget) x.items x.terms in record {
+    let found = listing_in (setting c b budget) x.items x.terms in record {
       listing = found;
       lists = is_listing c b budget runs None old new summary x (narrow_lines found summary x.narrow x.sums x.numbers);
       text_is = h found x.sums;
